@@ -1,0 +1,72 @@
+use native.Mathlib.Omega.{arith}
+use mathlib.Core.Path.{_≡_}
+use Prim.Native.Nat.{_+_, _*_, _-_, _≤_}
+use lib.ListN.{length, drop}
+use Rattle.game.specs.Table.{sum as total}
+use Rattle.game.proofs.Tables.{sum-drop, sum-end}
+use borrow.Author.Needs.{needs}
+use Rattle.net.proofs.total.Statement.{statement}
+use Rattle.net.proofs.total.Tie as tie
+use Rattle.net.proofs.total.Reads as reads
+use Rattle.net.proofs.total.Lts as lts
+use Rattle.net.proofs.wide.Reads as wide-reads
+
+abbrev Inv-loop : tie.InvT-loop
+Inv-loop weights sum₀ i₀ sum i =
+    (i ≤ length weights) × (sum + total (drop i weights) ≡ total weights) × (sum ≤ 4294967295 * i)
+
+abbrev μ-loop : tie.MeasureT-loop
+μ-loop weights sum₀ i₀ sum i = length weights - i
+
+-- src/lib.rt:94:5
+loop-holds : tie.Need-loop-holds Inv-loop μ-loop
+loop-holds c = search needs
+
+-- src/lib.rt:95:21
+mul-wide : tie.Need-mul-wide Inv-loop μ-loop
+mul-wide c = search needs
+
+-- src/lib.rt:95:21
+shared-slice-read-wide : tie.Need-shared-slice-read-wide Inv-loop μ-loop
+shared-slice-read-wide c = search needs
+
+-- src/lib.rt:95:16
+wide-requires : tie.Need-wide-requires Inv-loop μ-loop
+wide-requires c κs = search needs
+
+-- src/lib.rt:95:9
+add-sum : tie.Need-add-sum Inv-loop μ-loop
+add-sum c = omega (arith, c .before .shared-slice-known2 .given (c .before .before .before .loop .i), c .wide .ensures)
+
+-- src/lib.rt:96:9
+add-i : tie.Need-add-i Inv-loop μ-loop
+add-i c = search needs
+
+-- src/lib.rt:94:5
+loop-less : tie.Need-loop-less Inv-loop μ-loop
+loop-less c = search needs
+
+-- src/lib.rt:94:5
+loop-again : tie.Need-loop-again Inv-loop μ-loop
+loop-again c =
+    omega (arith, c .before .shared-slice-known2 .given (c .before .before .before .loop .i), c .wide .ensures, sum-drop (c .before .before .before .before .before .args .weights .now) (c .before .before .before .loop .i) (c .before .before .loop-test .taken))
+
+-- src/lib.rt:88:1
+returns : tie.Need-returns Inv-loop μ-loop
+returns c = omega (arith, sum-end (c .before .before .before .args .weights .now) (c .before .loop .i) (c .loop-test .left))
+
+pub total-spec : {M : Type 1} → statement M
+total-spec =
+    tie.close
+    (tie.spec
+    Inv-loop
+    μ-loop
+    loop-holds
+    mul-wide
+    shared-slice-read-wide
+    wide-requires
+    add-sum
+    add-i
+    loop-less
+    loop-again
+    returns)

@@ -1,0 +1,2 @@
+-- What damages a net.
+pub mod Damage

@@ -1,0 +1,95 @@
+// A net, that is an elimination forest with a weight on each vertex: its type, its constants, and what damages it.
+// A net's tables are lent as two slices, parents and weights; its vertex count is the length of its parents.
+ghost use mathlib.Core.Path.{_≡_};
+ghost use Prim.Native.Nat.{_≤_};
+ghost use lib.ListN.{length};
+ghost use Rattle.game.specs.Game.{absent};
+ghost use Rattle.game.specs.Table.{sum};
+ghost use Rattle.game.specs.Tree.{sound, soundParent};
+ghost use Rattle.refusal.specs.Limits.{maxVertices, maxTotal};
+ghost use Rattle.net.specs.Damage.{damagedBy};
+
+// What a call knows of a net whose tables it has read: how many vertices it has, and its total weight.
+pub struct Forest {
+    pub vertices: usize,
+    pub total: u64,
+}
+
+impl Forest {
+    // The parent of a vertex that has none.
+    pub const ABSENT: u32 = 0xFFFF_FFFF;
+
+    // The largest total weight.
+    pub const MAX_TOTAL: u64 = 16_000_000;
+
+    pub fn new(vertices: usize, total: u64) -> Forest
+        ensures { λ r. ⌜ (r .vertices ≡ vertices) × (r .total ≡ total) ⌝ }
+    {
+        Forest { vertices, total }
+    }
+
+    // The summary of a net's tables.
+    pub fn of(parents: &[u32], weights: &[u32]) -> Forest
+        requires { ⌜ length (now weights) ≤ maxVertices ⌝ }
+        ensures { λ r. ⌜ (r .vertices ≡ length (now (parents .entry))) × (r .total ≡ sum (now (weights .entry))) ⌝ }
+    {
+        Forest::new(parents.len(), total(weights))
+    }
+
+    // Refusal 30, of the net whose summary this is.
+    pub fn is_damaged(self, parents: &[u32]) -> bool
+        ensures { λ r. ⌜ r ≡ damagedBy (now (parents .entry)) (self .total) ⌝ }
+    {
+        if is_sound(parents) {
+            Forest::MAX_TOTAL < self.total
+        } else {
+            true
+        }
+    }
+}
+
+fn wide(x: u32) -> u64
+    ensures { λ r. ⌜ r ≡ x ⌝ }
+{
+    x as u64
+}
+
+// Whether p may be the parent of the vertex at rank i among n: it is absent or stands above i, within the table.
+fn is_parent(n: usize, i: usize, p: u32) -> bool
+    ensures { λ r. ⌜ r ≡ soundParent n i p ⌝ }
+{
+    if p == Forest::ABSENT {
+        return true;
+    }
+    let q = p as usize;
+    if i < q { q < n } else { false }
+}
+
+// Whether each parent is absent or stands above its vertex, within the table.
+pub fn is_sound(parents: &[u32]) -> bool
+    ensures { λ r. ⌜ r ≡ sound (now (parents .entry)) ⌝ }
+{
+    let n = parents.len();
+    let mut i = 0;
+    while i < n {
+        if !is_parent(n, i, parents[i]) {
+            return false;
+        }
+        i += 1;
+    }
+    true
+}
+
+// The sum of a table of weights.
+pub fn total(weights: &[u32]) -> u64
+    requires { ⌜ length (now weights) ≤ maxVertices ⌝ }
+    ensures { λ r. ⌜ r ≡ sum (now (weights .entry)) ⌝ }
+{
+    let mut sum: u64 = 0;
+    let mut i = 0;
+    while i < weights.len() {
+        sum += wide(weights[i]);
+        i += 1;
+    }
+    sum
+}

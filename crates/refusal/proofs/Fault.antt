@@ -1,0 +1,60 @@
+-- Laws of edge faults, and what a list without a fault is.
+-- Assumes nothing.
+use mathlib.Core.Path.{_≡_, refl, sym, ap, subst, _∙_}
+use mathlib.Core.Bool.{Bool, true, false, _||_, cond}
+use mathlib.Core.List.{List, [], _∷_}
+use Prim.Native.Nat.{ℕ, zero, suc, _+_, _≤_, _<_}
+use native.Mathlib.Omega.{arith}
+use native.Mathlib.Decide.{decLe, ℕ-discrete}
+use mathlib.Core.Logic.{by-cases}
+use lib.Dec.{eqb, leb}
+use lib.ListN.{length, getD, drop}
+use borrow.Author.Tests.{le-leb, lt-leb, eq-eqb, ne-eqb}
+use Rattle.game.specs.Edge.{Edge, _─_, edges}
+use Rattle.game.proofs.Edges.{edges-drop, edges-end}
+use Rattle.refusal.specs.Refusal.{fault, firstFault}
+use Rattle.refusal.proofs.First.{first-pass, first-stop, first-last}
+
+module _ (n a b : ℕ) where
+  pub fault-left : n ≤ a → fault n (a ─ b) ≡ 4
+  unfolding fault
+  fault-left h = rw (le-leb n a h)
+
+  pub fault-right : a < n → n ≤ b → fault n (a ─ b) ≡ 4
+  unfolding fault
+  fault-right ha h = rw (lt-leb n a ha, le-leb n b h)
+
+  pub fault-same : a < n → b < n → a ≡ b → fault n (a ─ b) ≡ 5
+  unfolding fault
+  fault-same ha hb e = rw (lt-leb n a ha, lt-leb n b hb, eq-eqb a b e)
+
+  pub fault-none : a < n → b < n → (a ≡ b → ⊥) → fault n (a ─ b) ≡ 0
+  unfolding fault
+  fault-none ha hb d = rw (lt-leb n a ha, lt-leb n b hb, ne-eqb a b d)
+
+  -- an edge without a fault joins two different vertices of the net
+  pub faultless : fault n (a ─ b) ≡ 0 → (a < n) × (b < n) × (a ≡ b → ⊥)
+  faultless e =
+      by-cases (decLe n a) (λ h. absurd (omega (arith, fault-left h)))
+      (λ (ha : n ≤ a → ⊥). by-cases (decLe n b) (λ h. absurd (omega (arith, fault-right (omega arith) h)))
+      (λ (hb : n ≤ b → ⊥). (omega arith, omega arith, λ d. omega (arith, fault-same (omega arith) (omega arith) d))))
+
+pub first-fault-here : (n : ℕ) (e : Edge) (es : List Edge) → (fault n e ≡ 0 → ⊥) → firstFault n (e ∷ es) ≡ fault n e
+unfolding firstFault
+first-fault-here n e es h = first-stop (fault n e) (firstFault n es ∷ []) h
+
+pub first-fault-on : (n : ℕ) (e : Edge) (es : List Edge) → fault n e ≡ 0 → firstFault n (e ∷ es) ≡ firstFault n es
+unfolding firstFault
+first-fault-on n e es h = first-pass (fault n e) (firstFault n es ∷ []) h ∙ first-last (firstFault n es)
+
+-- A scan of a flat list, two numbers at a time, with the scan at i: what is left decides.
+module _ (n : ℕ) (xs : List ℕ) (i : ℕ) where
+  pub scan-stop : i + 1 < length xs → (fault n (getD xs i 0 ─ getD xs (i + 1) 0) ≡ 0 → ⊥) → firstFault n (edges (drop i xs)) ≡ fault n (getD xs i 0 ─ getD xs (i + 1) 0)
+  scan-stop h f = rw (edges-drop xs i h) (first-fault-here n _ _ f)
+
+  pub scan-on : i + 1 < length xs → fault n (getD xs i 0 ─ getD xs (i + 1) 0) ≡ 0 → firstFault n (edges (drop (i + 2) xs)) ≡ firstFault n (edges (drop i xs))
+  scan-on h f = rw (edges-drop xs i h) (sym (first-fault-on n _ _ f))
+
+  pub scan-end : length xs ≤ i + 1 → firstFault n (edges (drop i xs)) ≡ 0
+  unfolding firstFault
+  scan-end h = rw (edges-end xs i h)

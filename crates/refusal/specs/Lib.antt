@@ -1,0 +1,5 @@
+-- Which inputs are refused, by document 01's numbers.
+pub mod Limits
+pub mod Refusal
+pub mod Answer
+pub mod Outcome

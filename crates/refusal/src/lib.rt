@@ -1,0 +1,77 @@
+// Refusals: the answer type, document 01's limits, and the tests that several calls share.
+ghost use mathlib.Core.Path.{_≡_};
+ghost use mathlib.Core.Bool.{true};
+ghost use Prim.Native.Nat.{_+_};
+ghost use Rattle.game.specs.Edge.{edges as edgesOf, _─_};
+ghost use Rattle.refusal.specs.Limits.{maxVertices, maxTotal, maxEdges};
+ghost use Rattle.refusal.specs.Refusal.{badCount, fault, firstFault};
+ghost use Rattle.refusal.specs.Answer.{number};
+
+// The largest number of vertices of a net.
+pub const MAX_VERTICES: usize = 1_000_000;
+
+// The largest number of edges in a list that a call takes whole.
+pub const MAX_EDGES: usize = 16_000_000;
+
+// What a call answers: done, or the number of document 01's table for which it was refused.
+pub enum Answer {
+    Accepted,
+    Refused(u32),
+}
+
+impl Answer {
+    // The answer that a number stands for: 0 is accepted.
+    pub fn of(code: u32) -> Answer
+        ensures { λ r. ⌜ number r ≡ code ⌝ }
+    {
+        if code == 0 {
+            Answer::Accepted
+        } else {
+            Answer::Refused(code)
+        }
+    }
+}
+
+// Refusal 1: no vertex, or too many.
+pub fn bad_count(n: usize) -> bool
+    ensures { λ r. ⌜ r ≡ badCount n ⌝ }
+{
+    n == 0 || MAX_VERTICES < n
+}
+
+fn wide(x: u32) -> usize
+    ensures { λ r. ⌜ r ≡ x ⌝ }
+{
+    x as usize
+}
+
+// Refusal 4 or 5 of one edge, or 0.
+pub fn edge_fault(n: usize, a: u32, b: u32) -> u32
+    ensures { λ r. ⌜ r ≡ fault n (a ─ b) ⌝ }
+{
+    if n <= wide(a) {
+        return 4;
+    }
+    if n <= wide(b) {
+        return 4;
+    }
+    if a == b {
+        return 5;
+    }
+    0
+}
+
+// Refusal 4 or 5 at the first faulty edge of a flat list, or 0.
+pub fn list_fault(n: usize, edges: &[u32]) -> u32
+    ensures { λ r. ⌜ r ≡ firstFault n (edgesOf (now (edges .entry))) ⌝ }
+{
+    let mut i = 0;
+    while i + 1 < edges.len() {
+        let number = edge_fault(n, edges[i], edges[i + 1]);
+        if number != 0 {
+            return number;
+        }
+        i += 2;
+    }
+    0
+}
