@@ -2,7 +2,7 @@
 -- Assumes nothing.
 use mathlib.Core.Path.{_≡_, refl, sym, ap, _∙_}
 use mathlib.Core.List.{List, [], _∷_, _++_}
-use Prim.Native.Nat.{ℕ, suc, _+_, _≤_, _<_}
+use Prim.Native.Nat.{ℕ, suc, _+_, _/_, _≤_, _<_}
 use native.Mathlib.Numerals.{add-one, add-two}
 use native.Mathlib.Omega.{arith}
 use lib.ListN.{length, getD, drop, length-drop}
@@ -26,3 +26,10 @@ edges-short (x ∷ y ∷ xs) h = absurd (omega arith)
 -- at the end nothing is left
 pub edges-end : (xs : List ℕ) (i : ℕ) → length xs ≤ i + 1 → edges (drop i xs) ≡ []
 edges-end xs i h = edges-short (drop i xs) (simp length-drop (omega arith))
+
+-- a flat list holds half as many edges as numbers
+pub edges-length : (xs : List ℕ) → length (edges xs) ≡ length xs / 2
+unfolding edges
+edges-length [] = refl
+edges-length (x ∷ []) = refl
+edges-length (x ∷ y ∷ xs) = omega (arith, edges-length xs)

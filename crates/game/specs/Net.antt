@@ -17,6 +17,9 @@ pub record Net : Type 0 where
   pub parents : List ℕ
   pub weights : List ℕ
 
+abbrev pub net : List ℕ → List ℕ → Net
+net parents weights = record { parents = parents; weights = weights }
+
 -- "Load of x: the number of ties whose lower end is x, repeats counted"
 unfoldable pub weight : List Edge → ℕ → ℕ
 unfolding count lower
@@ -27,14 +30,13 @@ unfolding tabulate weight
 weights n es = tabulate n (weight es)
 
 -- "Total: the sum of the loads"
-unfoldable pub total : Net → ℕ
-unfolding sum
-total net = sum (net .weights)
+abbrev pub total : Net → ℕ
+total of = sum (of .weights)
 
 -- the net of an edge list on n vertices
 unfoldable pub netOf : ℕ → List Edge → Net
 unfolding forest weights
-netOf n es = record { parents = forest n es; weights = weights n es }
+netOf n es = net (forest n es) (weights n es)
 
 -- the edge runs between y and a vertex under x
 unfoldable pub enters : List ℕ → ℕ → ℕ → Edge → Bool

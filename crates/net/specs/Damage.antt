@@ -11,9 +11,7 @@ use Rattle.refusal.specs.Limits.{maxTotal}
 
 -- of a table of parents and a total
 unfoldable pub damagedBy : List ℕ → ℕ → Bool
-unfolding sound
 damagedBy parents sum = not (sound parents) || ltb maxTotal sum
 
 unfoldable pub damaged : Net → Bool
-unfolding damagedBy total
 damaged net = damagedBy (net .parents) (total net)

@@ -12,8 +12,9 @@ use lib.ListN.{length, getD, drop}
 use borrow.Author.Tests.{le-leb, lt-leb, eq-eqb, ne-eqb}
 use Rattle.game.specs.Edge.{Edge, _─_, edges}
 use Rattle.game.proofs.Edges.{edges-drop, edges-end}
+use Rattle.game.proofs.Proper.{Proper, proper-nil, proper-cons}
 use Rattle.refusal.specs.Refusal.{fault, firstFault}
-use Rattle.refusal.proofs.First.{first-pass, first-stop, first-last}
+use Rattle.refusal.proofs.First.{first-pass, first-stop, first-last, first-none}
 
 module _ (n a b : ℕ) where
   pub fault-left : n ≤ a → fault n (a ─ b) ≡ 4
@@ -58,3 +59,12 @@ module _ (n : ℕ) (xs : List ℕ) (i : ℕ) where
   pub scan-end : length xs ≤ i + 1 → firstFault n (edges (drop i xs)) ≡ 0
   unfolding firstFault
   scan-end h = rw (edges-end xs i h)
+
+-- a list without a fault is a proper graph on n vertices
+pub faultless-proper : (n : ℕ) (es : List Edge) → firstFault n es ≡ 0 → Proper n es
+unfolding firstFault
+faultless-proper n [] z = proper-nil n
+faultless-proper n ((a ─ b) ∷ es) z =
+    let f = first-none (fault n (a ─ b)) (firstFault n es ∷ []) z in
+    let k = faultless n a b (f .0) in
+    proper-cons (k .0) (k .1) (k .2) (faultless-proper n es (sym (first-last (firstFault n es)) ∙ f .1))

@@ -1,11 +1,16 @@
 -- Laws of `first`, `given` and `unless`: what a chain of early returns shows, and what an accepted call knows.
 -- Assumes nothing.
 use mathlib.Core.Path.{_≡_, refl, sym, ap, _∙_}
-use mathlib.Core.Bool.{Bool, true, false}
+use mathlib.Core.Bool.{Bool, true, false, _||_, true≢false}
 use mathlib.Core.List.{List, [], _∷_}
-use Prim.Native.Nat.{ℕ, zero, suc}
+use Prim.Native.Nat.{ℕ, zero, suc, _%_, _≤_, _<_}
+use native.Mathlib.Nat.{pos-of-ne-zero}
 use native.Mathlib.Omega.{arith}
-use Rattle.refusal.specs.Refusal.{given, first, unless}
+use lib.Dec.{eqb, ltb}
+use lib.ListN.{length}
+use borrow.Author.Tests.{eq-eqb, ne-eqb, eqb-true, eqb-false, ltb-false, not-false}
+use Rattle.refusal.specs.Limits.{maxVertices}
+use Rattle.refusal.specs.Refusal.{given, first, unless, wrongLength, odd, badCount}
 
 -- a test that does not apply is passed over
 pub first-pass : (k : ℕ) (ks : List ℕ) → k ≡ 0 → first (k ∷ ks) ≡ first ks
@@ -53,3 +58,48 @@ pub unless-accepted : {A : Type 0} (k : ℕ) (was new : A) → k ≡ 0 → unles
 unfolding unless
 unless-accepted zero was new e = refl
 unless-accepted (suc k) was new e = absurd (omega arith)
+
+-- the same for a test and its number
+pub pass : {t : Bool} (k : ℕ) (ks : List ℕ) → t ≡ false → first (given t k ∷ ks) ≡ first ks
+pass {t} k ks e = first-pass (given t k) ks (given-false t k e)
+
+pub stop : {t : Bool} (k : ℕ) (ks : List ℕ) → t ≡ true → first (given t (suc k) ∷ ks) ≡ suc k
+unfolding first given
+stop k ks e = rw e
+
+-- a length that is right, or wrong
+pub right-length : (has needs : ℕ) → has ≡ needs → wrongLength has needs ≡ false
+unfolding wrongLength
+right-length has needs e = rw (eq-eqb has needs e)
+
+pub wrong-length : (has needs : ℕ) → (has ≡ needs → ⊥) → wrongLength has needs ≡ true
+unfolding wrongLength
+wrong-length has needs d = rw (ne-eqb has needs d)
+
+pub length-right : (has needs : ℕ) → wrongLength has needs ≡ false → has ≡ needs
+unfolding wrongLength
+length-right has needs e = eqb-true has needs (not-false (eqb has needs) e)
+
+-- a list of even length, or odd
+pub even-list : (xs : List ℕ) → length xs % 2 ≡ 0 → odd xs ≡ false
+unfolding odd
+even-list xs e = rw (eq-eqb (length xs % 2) 0 e)
+
+pub odd-list : (xs : List ℕ) → (length xs % 2 ≡ 0 → ⊥) → odd xs ≡ true
+unfolding odd
+odd-list xs d = rw (ne-eqb (length xs % 2) 0 d)
+
+-- a count that is not refused
+pub good-count : (n : ℕ) → badCount n ≡ false → (0 < n) × (n ≤ maxVertices)
+unfolding badCount
+good-count n e = go (eqb n 0) (ltb maxVertices n) refl refl e
+  where
+    go : (a b : Bool) → eqb n 0 ≡ a → ltb maxVertices n ≡ b → (a || b) ≡ false → (0 < n) × (n ≤ maxVertices)
+    go true b p q r = absurd (true≢false r)
+    go false true p q r = absurd (true≢false r)
+    go false false p q r = (pos-of-ne-zero (eqb-false n 0 p), ltb-false maxVertices n q)
+
+-- no test is left
+pub first-end : first [] ≡ 0
+unfolding first
+first-end = refl

@@ -14,5 +14,4 @@ ended k t = record { answer = k; tables = t }
 
 -- what it has to end with: refused by the number k with the tables as they were, or accepted (0) with the new ones
 unfoldable pub decided : {A : Type 0} → ℕ → A → A → Outcome A
-unfolding unless
 decided k was new = ended k (unless k was new)

@@ -44,6 +44,5 @@ fault n (a ─ b) = cond (leb n a || leb n b) 4 (cond (eqb a b) 5 0)
 
 -- "4 or 5 at the first faulty tie"
 unfoldable pub firstFault : ℕ → List Edge → ℕ
-unfolding first fault
 firstFault n [] = 0
 firstFault n (e ∷ es) = first (fault n e ∷ firstFault n es ∷ [])

@@ -1,0 +1,9 @@
+pub mod Counts
+pub mod Below
+pub mod Sources
+pub mod Filling
+pub mod Tallied
+pub mod Starts
+pub mod Storing
+pub mod Placing
+pub mod Filing

@@ -1,0 +1,3 @@
+-- Edges filed by their upper end.
+pub mod Ends
+pub mod Filed

@@ -1,0 +1,69 @@
+use native.Mathlib.Omega.{arith}
+use mathlib.Core.Path.{_≡_, ap, _∙_}
+use Prim.Native.Nat.{ℕ}
+use lib.ListN.{replicate}
+use Rattle.game.specs.Game.{absent}
+use Rattle.forest.proofs.Rooms.{work-cleared}
+use borrow.Author.Needs.{needs}
+use Rattle.forest.proofs.grow.regrow.Statement.{statement}
+use Rattle.forest.proofs.grow.regrow.Tie as tie
+use Rattle.forest.proofs.grow.regrow.Reads as reads
+use Rattle.forest.proofs.grow.regrow.Lts as lts
+use Rattle.bucket.proofs.fill.Reads as fill-reads
+use Rattle.forest.proofs.grow.raise.Reads as raise-reads
+
+fill-requires : tie.Need-fill-requires
+fill-requires c κs = search needs
+
+fill-requires-2 : tie.Need-fill-requires-2
+fill-requires-2 c κs = search needs
+
+raise-requires : tie.Need-raise-requires
+raise-requires c κs = record {
+  blank = c .before .before .before .before .before .before .before .before .before .before .fill .ensures ∙ ap (λ (n : ℕ). replicate n absent) (c .before .before .before .before .before .before .before .before .before .before .before .before .before .before .before .before .pre .long);
+  blank-jump = c .before .before .before .before .before .before .fill2 .ensures ∙ ap (λ (n : ℕ). replicate n absent) (c .before .before .before .before .before .before .before .before .before .before .before .before .before .before .before .before .pre .long-jump);
+  buckets = c .before .before .before .before .before .before .before .before .before .before .before .before .before .before .before .before .pre .buckets;
+}
+
+fill-requires-3 : tie.Need-fill-requires-3
+fill-requires-3 c κs = search needs
+
+fill-requires-4 : tie.Need-fill-requires-4
+fill-requires-4 c κs = search needs
+
+fill-requires-5 : tie.Need-fill-requires-5
+fill-requires-5 c κs = search needs
+
+same-length : tie.Need-same-length
+same-length c = search needs
+
+same-length-2 : tie.Need-same-length-2
+same-length-2 c = search needs
+
+same-length-3 : tie.Need-same-length-3
+same-length-3 c = search needs
+
+same-length-4 : tie.Need-same-length-4
+same-length-4 c = search needs
+
+returns : tie.Need-returns
+returns c = record {
+  grown = c .before .before .before .before .before .before .before .before .before .before .before .before .before .before .before .before .raise .ensures .raised;
+  clear = work-cleared _ _ _ _ (c .before .before .before .before .before .before .before .before .before .before .before .before .before .before .before .before .raise .kept .1 .1 .1 .0 ∙ c .before .before .before .before .before .before .before .before .before .before .before .before .before .before .before .before .before .before .before .before .before .before .before .fill2 .kept .0) (c .before .before .before .before .before .before .before .before .before .before .fill3 .ensures) (c .before .before .before .before .before .before .fill4 .ensures) (c .before .before .fill5 .ensures);
+}
+
+pub regrow-spec : {M : Type 1} → statement M
+regrow-spec =
+    tie.close
+    (tie.spec
+    fill-requires
+    fill-requires-2
+    raise-requires
+    fill-requires-3
+    fill-requires-4
+    fill-requires-5
+    same-length
+    same-length-2
+    same-length-3
+    same-length-4
+    returns)

@@ -1,0 +1,72 @@
+// Adding edges to a net.
+use crate::grow;
+use crate::work;
+use net::Forest;
+use refusal::Answer;
+ghost use mathlib.Core.Path.{_≡_};
+ghost use Rattle.game.specs.Net.{net};
+ghost use Rattle.forest.specs.Work.{growing, workOf};
+ghost use Rattle.refusal.specs.Answer.{number};
+ghost use Rattle.refusal.specs.Outcome.{ended};
+ghost use Rattle.forest.specs.Add.{addRefusal, addOutcome};
+
+// The number for which adding is refused, or 0.
+fn add_refusal(
+    parents: &[u32],
+    weights: &[u32],
+    edges: &[u32],
+    ends: &[u32],
+    jump: &[u32],
+    lower: &[u32],
+) -> u32
+    ensures { λ r. ⌜ r ≡ addRefusal (growing (net (now (parents .entry)) (now (weights .entry))) (workOf (now (ends .entry)) (now (jump .entry)) (now (lower .entry)))) (now (edges .entry)) ⌝ }
+{
+    let n = parents.len();
+    if refusal::bad_count(n) {
+        return 1;
+    }
+    if weights.len() != n {
+        return 2;
+    }
+    if edges.len() % 2 != 0 {
+        return 2;
+    }
+    if work::bad_work(n, n + edges.len() / 2, ends, jump, lower) {
+        return 2;
+    }
+    let forest = Forest::of(parents, weights);
+    if forest.is_damaged(parents) {
+        return 30;
+    }
+    let fault = refusal::list_fault(n, edges);
+    if fault != 0 {
+        return fault;
+    }
+    if Forest::MAX_TOTAL < forest.total + (edges.len() / 2) as u64 {
+        return 20;
+    }
+    0
+}
+
+// Adds a list of edges to a net, as a whole or not at all: the parents become those of the elimination game on the old links and the
+// new edges, and each edge raises the weight of its lower end. The work tables take n, n and n + m entries for n vertices and m
+// edges; they end as zeros.
+pub fn add(
+    parents: &mut [u32],
+    weights: &mut [u32],
+    edges: &[u32],
+    ends: &mut [u32],
+    jump: &mut [u32],
+    lower: &mut [u32],
+) -> Answer
+    ensures { λ r. ⌜ ended (number r) (growing (net (now (parents .exit)) (now (weights .exit))) (workOf (now (ends .exit)) (now (jump .exit)) (now (lower .exit)))) ≡ addOutcome (growing (net (now (parents .entry)) (now (weights .entry))) (workOf (now (ends .entry)) (now (jump .entry)) (now (lower .entry)))) (now (edges .entry)) ⌝ }
+{
+    let code = add_refusal(parents, weights, edges, ends, jump, lower);
+    if code != 0 {
+        return Answer::Refused(code);
+    }
+    bucket::tally(weights, edges, false);
+    bucket::file_edges(parents, edges, ends, lower);
+    grow::regrow(parents, ends, jump, lower);
+    Answer::Accepted
+}

@@ -1,0 +1,52 @@
+use mathlib.Core.Path.{sym, _∙_}
+use borrow.Author.Needs.{needs}
+use Rattle.relabel.proofs.Refused.{bad-count-false, refused-count, refused-odd, refused-out, refused-inverse, refused-order, refused-edge}
+use Rattle.relabel.proofs.relabel_refusal.Statement.{statement}
+use Rattle.relabel.proofs.relabel_refusal.Tie as tie
+
+bad-count-requires : tie.Need-bad-count-requires
+bad-count-requires c κs = search needs
+
+returns : tie.Need-returns
+returns c = sym (refused-count _ _ _ _ (sym (c .before .bad-count .ensures) ∙ c .if1 .taken))
+
+returns-2 : tie.Need-returns-2
+returns-2 c = sym (refused-odd _ _ _ _ (sym (c .before .before .bad-count .ensures) ∙ c .before .if1 .left) (c .if2 .taken))
+
+returns-3 : tie.Need-returns-3
+returns-3 c = sym (refused-out _ _ _ _ (sym (c .before .before .before .bad-count .ensures) ∙ c .before .before .if1 .left) (c .before .if2 .left) (c .if3 .taken))
+
+returns-4 : tie.Need-returns-4
+returns-4 c =
+    sym (refused-inverse _ _ _ _ (sym (c .before .before .before .before .bad-count .ensures) ∙ c .before .before .before .if1 .left) (c .before .before .if2 .left) (c .before .if3 .left) (c .if4 .taken))
+
+bad-order-requires : tie.Need-bad-order-requires
+bad-order-requires c κs = bad-count-false _ (sym (c .before .before .before .before .bad-count .ensures) ∙ c .before .before .before .if1 .left)
+
+returns-5 : tie.Need-returns-5
+returns-5 c =
+    sym
+    (refused-order _ _ _ _ (sym (c .before .before .before .before .before .before .bad-count .ensures) ∙ c .before .before .before .before .before .if1 .left) (c .before .before .before .before .if2 .left) (c .before .before .before .if3 .left) (c .before .before .if4 .left) (sym (c .before .bad-order .ensures) ∙ c .if5 .taken))
+
+list-fault-requires : tie.Need-list-fault-requires
+list-fault-requires c κs = search needs
+
+returns-6 : tie.Need-returns-6
+returns-6 c =
+    c .list-fault .ensures
+    ∙ sym
+    (refused-edge _ _ _ _ (sym (c .before .before .before .before .before .before .before .bad-count .ensures) ∙ c .before .before .before .before .before .before .if1 .left) (c .before .before .before .before .before .if2 .left) (c .before .before .before .before .if3 .left) (c .before .before .before .if4 .left) (sym (c .before .before .bad-order .ensures) ∙ c .before .if5 .left))
+
+pub relabel-refusal-spec : {M : Type 1} → statement M
+relabel-refusal-spec =
+    tie.close
+    (tie.spec
+    bad-count-requires
+    returns
+    returns-2
+    returns-3
+    returns-4
+    bad-order-requires
+    returns-5
+    list-fault-requires
+    returns-6)
