@@ -1,3 +1,4 @@
+-- Laws by subject: counts, the two sources of edges, one file for each loop, and what the two fronts need of them together.
 pub mod Counts
 pub mod Below
 pub mod Sources

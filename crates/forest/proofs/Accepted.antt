@@ -45,10 +45,19 @@ whole of b l d =
     let n = good-count (length (of .parents)) b in
     record { some = n .0; few = n .1; long = length-right _ _ l; sound = k .0; light = k .1 }
 
--- starting: the tables fit
-pub startable : (of : Net) → startRefusal of ≡ 0 → length (of .weights) ≡ length (of .parents)
+-- starting: few vertices, and tables that fit
+pub record Startable (of : Net) : Type 0 where
+  pub some : 0 < length (of .parents)
+  pub few : length (of .parents) ≤ maxVertices
+  pub long : length (of .weights) ≡ length (of .parents)
+
+pub startable : (of : Net) → startRefusal of ≡ 0 → Startable of
 unfolding startRefusal
-startable of z = length-right _ _ (given-none _ _ (first-none _ _ (first-none _ _ z .1) .0))
+startable of z =
+    let a = first-none _ _ z in
+    let b = first-none _ _ (a .1) in
+    let n = good-count (length (of .parents)) (given-none _ _ (a .0)) in
+    record { some = n .0; few = n .1; long = length-right _ _ (given-none _ _ (b .0)) }
 
 pub record Addable (g : Growing) (xs : List ℕ) : Type 0 where
   pub net : Whole (g .net)

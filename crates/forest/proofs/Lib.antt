@@ -3,5 +3,9 @@ pub mod Raise
 pub mod Rooms
 pub mod Tests
 pub mod Accepted
+pub mod Regrown
 pub mod Outcomes
 pub mod Summed
+pub mod Exchange
+pub mod Put
+pub mod Laws

@@ -5,7 +5,6 @@ use mathlib.Core.Bool.{false}
 use mathlib.Core.List.{List, [], _++_, zipWith}
 use Prim.Native.Nat.{ℕ, _+_, _^_, _≤_, _<_}
 use native.Mathlib.Omega.{arith}
-use native.Mathlib.Nat.{le-trans}
 use lib.ListN.{length, getD, replicate}
 use Rattle.game.specs.Edge.{Edge, edges}
 use Rattle.game.specs.Game.{absent, forest}
@@ -16,18 +15,20 @@ use Rattle.game.proofs.Forest.{forest-empty}
 use Rattle.game.proofs.Weights.{weights-empty}
 use Rattle.game.proofs.Proper.{Proper, proper-append}
 use Rattle.game.proofs.Links.{links-proper}
+use Rattle.game.proofs.Sound.{true-sound}
 use Rattle.game.proofs.Tables.{sum-entry}
-use Rattle.refusal.specs.Limits.{maxVertices}
 use Rattle.refusal.specs.Refusal.{firstFault}
 use Rattle.refusal.proofs.Fault.{faultless-proper}
 use Rattle.bucket.specs.Ends.{tallied}
 use Rattle.bucket.specs.Filed.{Filed}
-use Rattle.bucket.proofs.Below.{below-mono}
 use Rattle.bucket.proofs.Tallied.{tally-weights}
-use Rattle.forest.specs.Work.{Growing, growing, workOf, zeros, cleared}
+use Rattle.forest.specs.Work.{Growing, growing, workOf, cleared}
 use Rattle.forest.specs.Add.{grown}
 use Rattle.forest.specs.Join.{joined}
-use Rattle.forest.specs.Growth.{Roomy, Regrows}
+use Rattle.forest.specs.Growth.{Regrows}
+use Rattle.forest.specs.Putting.{Extendable, Extends}
+use Rattle.forest.proofs.Regrown.{regrown}
+use Rattle.forest.proofs.Rooms.{same-room}
 use Rattle.forest.proofs.Accepted.{Whole, Room, Addable, Joinable}
 
 -- tables without parents and weights are the net of no edge
@@ -35,24 +36,6 @@ pub start-ends : (p w : List ℕ) {p′ w′ : List ℕ} → length w ≡ length
 unfolding netOf
 start-ends p w e f g =
     ap₂ net (f ∙ sym (forest-empty (length p))) (g ∙ ap (λ (n : ℕ). replicate n 0) e ∙ sym (weights-empty (length p)))
-
--- what is filed has room to be grown
-pub filed-roomy : {n : ℕ} {E : List Edge} {ends lower p jump : List ℕ} → Filed n E ends lower → n ≤ maxVertices → length p ≡ n → length jump ≡ n → Roomy ends lower p jump
-filed-roomy {n} {E} f few e g = record {
-  long = e ∙ sym (f .long);
-  long-jump = g ∙ sym (f .long);
-  buckets = record { few = omega (arith, f .long); room = λ y h. omega (arith, f .end-at y (omega (arith, f .long)), below-mono (y + 1) n E (omega (arith, f .long)), f .fits) };
-}
-
--- what was filed is grown
-regrown : {n : ℕ} {E : List Edge} {ends lower jump p′ ends′ lower′ jump′ : List ℕ} → Proper n E → Filed n E ends lower → Regrows ends lower jump p′ ends′ lower′ jump′ → p′ ≡ forest n E
-regrown {n} {E} {ends} {lower} {p′ = p′} k f r =
-    subst (λ (m : ℕ). Proper m E → Filed m E ends lower → p′ ≡ forest m E) (f .long) (r .grown E) k f
-
--- work tables are cleared by their lengths
-same-room : (ends lower jump ends₀ lower₀ : List ℕ) → length ends ≡ length ends₀ → length lower ≡ length lower₀ → cleared (workOf ends jump lower) ≡ cleared (workOf ends₀ jump lower₀)
-unfolding cleared zeros
-same-room ends lower jump ends₀ lower₀ e f = λ i. workOf (replicate (e i) 0) (replicate (length jump) 0) (replicate (f i) 0)
 
 -- adding
 module _ {p w e j l : List ℕ} {xs : List ℕ} (a : Addable (growing (net p w) (workOf e j l)) xs) where
@@ -63,14 +46,21 @@ module _ {p w e j l : List ℕ} {xs : List ℕ} (a : Addable (growing (net p w) 
   pub add-faultless : firstFault (length w) (edges xs) ≡ 0
   add-faultless = ap (λ (n : ℕ). firstFault n (edges xs)) (a .net .long) ∙ a .faultless
 
-  add-proper : Proper (length p) (links p ++ edges xs)
-  add-proper = proper-append (links-proper (a .net .sound)) (faultless-proper (length p) (edges xs) (a .faultless))
+  pub add-extendable : Extendable p xs e j l
+  add-extendable = record {
+    table = record { few = a .net .few; sound = true-sound (a .net .sound) };
+    faultless = a .faultless;
+    long = a .work .ends;
+    long-jump = a .work .jump;
+    room = omega (arith, a .work .lower);
+    small = omega (arith, a .work .lower, a .net .few, a .light);
+  }
 
-  pub add-ends : {w′ e′ l′ p″ e″ l″ j″ : List ℕ} → w′ ≡ tallied false (edges xs) w → Filed (length p) (links p ++ edges xs) e′ l′ → length e′ ≡ length e → length l′ ≡ length l → Regrows e′ l′ j p″ e″ l″ j″ → growing (net p″ w′) (workOf e″ j″ l″) ≡ growing (grown (net p w) (edges xs)) (cleared (workOf e j l))
+  pub add-ends : {w′ p′ e′ j′ l′ : List ℕ} → w′ ≡ tallied false (edges xs) w → Extends p xs e j l p′ e′ j′ l′ → growing (net p′ w′) (workOf e′ j′ l′) ≡ growing (grown (net p w) (edges xs)) (cleared (workOf e j l))
   unfolding grown
-  add-ends t f s s′ r = ap₂ growing
-      (ap₂ net (regrown add-proper f r) (t ∙ tally-weights (edges xs) w ∙ ap (λ (n : ℕ). zipWith _+_ w (weights n (edges xs))) (a .net .long)))
-      (r .clear ∙ same-room _ _ j e l s s′)
+  add-ends t x = ap₂ growing
+      (ap₂ net (x .grown) (t ∙ tally-weights (edges xs) w ∙ ap (λ (n : ℕ). zipWith _+_ w (weights n (edges xs))) (a .net .long)))
+      (x .clear)
 
 -- joining
 module _ {p w q v e j l : List ℕ} (a : Joinable (growing (net p w) (workOf e j l)) (net q v)) where
@@ -79,4 +69,4 @@ module _ {p w q v e j l : List ℕ} (a : Joinable (growing (net p w) (workOf e j
 
   pub join-ends : {w′ e′ l′ p″ e″ l″ j″ : List ℕ} → w′ ≡ zipWith _+_ w v → Filed (length p) (links p ++ links q) e′ l′ → length e′ ≡ length e → length l′ ≡ length l → Regrows e′ l′ j p″ e″ l″ j″ → growing (net p″ w′) (workOf e″ j″ l″) ≡ growing (joined (net p w) (net q v)) (cleared (workOf e j l))
   unfolding joined
-  join-ends t f s s′ r = ap₂ growing (ap₂ net (regrown join-proper f r) t) (r .clear ∙ same-room _ _ j e l s s′)
+  join-ends t f s s′ r = ap₂ growing (ap₂ net (regrown join-proper f r) t) (r .clear ∙ same-room _ _ _ e j l s refl s′)

@@ -37,7 +37,12 @@ module _ (n m : ℕ) (w : Work) where
       go false true p q r = absurd (true≢false r)
       go false false p q r = (length-right _ n p, length-right _ n q, length-right _ m r)
 
--- three tables of zeros are cleared work tables; the table of jumps may have been written on the way
-pub work-cleared : (ends jump lower : List ℕ) {ends′ jump′ lower′ : List ℕ} (k : ℕ) → k ≡ length jump → ends′ ≡ replicate (length ends) 0 → jump′ ≡ replicate k 0 → lower′ ≡ replicate (length lower) 0 → workOf ends′ jump′ lower′ ≡ cleared (workOf ends jump lower)
+-- three tables of zeros are cleared work tables
+pub work-cleared : (ends jump lower : List ℕ) {ends′ jump′ lower′ : List ℕ} → ends′ ≡ replicate (length ends) 0 → jump′ ≡ replicate (length jump) 0 → lower′ ≡ replicate (length lower) 0 → workOf ends′ jump′ lower′ ≡ cleared (workOf ends jump lower)
 unfolding cleared zeros
-work-cleared ends jump lower k s e f g = λ i. workOf (e i) ((f ∙ ap (λ (n : ℕ). replicate n 0) s) i) (g i)
+work-cleared ends jump lower e f g = λ i. workOf (e i) (f i) (g i)
+
+-- work tables are cleared by their lengths, whatever was written on the way
+pub same-room : (ends jump lower ends₀ jump₀ lower₀ : List ℕ) → length ends ≡ length ends₀ → length jump ≡ length jump₀ → length lower ≡ length lower₀ → cleared (workOf ends jump lower) ≡ cleared (workOf ends₀ jump₀ lower₀)
+unfolding cleared zeros
+same-room ends jump lower ends₀ jump₀ lower₀ e f g = λ i. workOf (replicate (e i) 0) (replicate (f i) 0) (replicate (g i) 0)

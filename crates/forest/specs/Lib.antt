@@ -4,3 +4,4 @@ pub mod Start
 pub mod Add
 pub mod Join
 pub mod Growth
+pub mod Putting

@@ -1,5 +1,5 @@
 // Adding edges to a net.
-use crate::grow;
+use crate::putting;
 use crate::work;
 use net::Forest;
 use refusal::Answer;
@@ -66,7 +66,6 @@ pub fn add(
         return Answer::Refused(code);
     }
     bucket::tally(weights, edges, false);
-    bucket::file_edges(parents, edges, ends, lower);
-    grow::regrow(parents, ends, jump, lower);
+    putting::extend(parents, edges, ends, jump, lower);
     Answer::Accepted
 }

@@ -3,6 +3,7 @@ use net::Forest;
 ghost use mathlib.Core.Path.{_≡_};
 ghost use Prim.Native.Nat.{_<_, _≤_};
 ghost use lib.ListN.{length};
+ghost use Rattle.forest.specs.Work.{workOf, cleared};
 ghost use Rattle.forest.specs.Growth.{Upward, Climbs, Gathers, Blank, Raises, Roomy, Regrows};
 
 // Makes the root of u's tree a child of y, and every vertex on the way jump to y. A vertex jumps higher than it stands, so
@@ -57,6 +58,15 @@ fn raise(ends: &[u32], lower: &[u32], parents: &mut [u32], jump: &mut [u32])
     }
 }
 
+// Clears the work tables.
+pub fn clear(ends: &mut [u32], jump: &mut [u32], lower: &mut [u32])
+    ensures { λ _. ⌜ workOf (now (ends .exit)) (now (jump .exit)) (now (lower .exit)) ≡ cleared (workOf (now (ends .entry)) (now (jump .entry)) (now (lower .entry))) ⌝ }
+{
+    bucket::fill(ends, 0);
+    bucket::fill(jump, 0);
+    bucket::fill(lower, 0);
+}
+
 // Grows the forest of the graph that is filed, and clears the work tables.
 pub fn regrow(parents: &mut [u32], ends: &mut [u32], jump: &mut [u32], lower: &mut [u32])
     requires { ⌜ Roomy (now ends) (now lower) (now parents) (now jump) ⌝ }
@@ -65,7 +75,5 @@ pub fn regrow(parents: &mut [u32], ends: &mut [u32], jump: &mut [u32], lower: &m
     bucket::fill(parents, Forest::ABSENT);
     bucket::fill(jump, Forest::ABSENT);
     raise(ends, lower, parents, jump);
-    bucket::fill(ends, 0);
-    bucket::fill(jump, 0);
-    bucket::fill(lower, 0);
+    clear(ends, jump, lower);
 }

@@ -3,6 +3,7 @@
 mod adding;
 mod grow;
 mod joining;
+mod putting;
 mod starting;
 mod work;
 

@@ -1,7 +1,7 @@
 -- Laws of `first`, `given` and `unless`: what a chain of early returns shows, and what an accepted call knows.
 -- Assumes nothing.
 use mathlib.Core.Path.{_≡_, refl, sym, ap, _∙_}
-use mathlib.Core.Bool.{Bool, true, false, _||_, true≢false}
+use mathlib.Core.Bool.{Bool, true, false}
 use mathlib.Core.List.{List, [], _∷_}
 use Prim.Native.Nat.{ℕ, zero, suc, _%_, _≤_, _<_}
 use native.Mathlib.Nat.{pos-of-ne-zero}
@@ -9,6 +9,7 @@ use native.Mathlib.Omega.{arith}
 use lib.Dec.{eqb, ltb}
 use lib.ListN.{length}
 use borrow.Author.Tests.{eq-eqb, ne-eqb, eqb-true, eqb-false, ltb-false, not-false}
+use Rattle.game.proofs.Bools.{or-neither}
 use Rattle.refusal.specs.Limits.{maxVertices}
 use Rattle.refusal.specs.Refusal.{given, first, unless, wrongLength, odd, badCount}
 
@@ -59,6 +60,12 @@ unfolding unless
 unless-accepted zero was new e = refl
 unless-accepted (suc k) was new e = absurd (omega arith)
 
+-- a part of what is decided
+pub unless-part : {A B : Type 0} (f : A → B) (k : ℕ) (was new : A) → f (unless k was new) ≡ unless k (f was) (f new)
+unfolding unless
+unless-part f zero was new = refl
+unless-part f (suc k) was new = refl
+
 -- the same for a test and its number
 pub pass : {t : Bool} (k : ℕ) (ks : List ℕ) → t ≡ false → first (given t k ∷ ks) ≡ first ks
 pass {t} k ks e = first-pass (given t k) ks (given-false t k e)
@@ -92,12 +99,9 @@ odd-list xs d = rw (ne-eqb (length xs % 2) 0 d)
 -- a count that is not refused
 pub good-count : (n : ℕ) → badCount n ≡ false → (0 < n) × (n ≤ maxVertices)
 unfolding badCount
-good-count n e = go (eqb n 0) (ltb maxVertices n) refl refl e
-  where
-    go : (a b : Bool) → eqb n 0 ≡ a → ltb maxVertices n ≡ b → (a || b) ≡ false → (0 < n) × (n ≤ maxVertices)
-    go true b p q r = absurd (true≢false r)
-    go false true p q r = absurd (true≢false r)
-    go false false p q r = (pos-of-ne-zero (eqb-false n 0 p), ltb-false maxVertices n q)
+good-count n e =
+    let h = or-neither (eqb n 0) (ltb maxVertices n) e in
+    (pos-of-ne-zero (eqb-false n 0 (h .0)), ltb-false maxVertices n (h .1))
 
 -- no test is left
 pub first-end : first [] ≡ 0

@@ -13,16 +13,8 @@ use lib.Dec.{eqb, leb}
 use lib.ListN.{length, getD, drop}
 use borrow.Author.Tests.{leb-false, le-leb, lt-leb, eqb-false, eq-eqb, ne-eqb}
 use Rattle.game.specs.Table.{member}
-use Rattle.game.proofs.Bools.{or-left, or-right}
+use Rattle.game.proofs.Bools.{or-left, or-right, or-neither, neither-or}
 use Rattle.relabel.specs.Relabel.{badEntry}
-
--- neither of two tests joined by "or" passes
-pub or-neither : (a b : Bool) → (a || b) ≡ false → (a ≡ false) × (b ≡ false)
-or-neither true b e = absurd (true≢false e)
-or-neither false b e = (refl, e)
-
-neither-or : (a b : Bool) → a ≡ false → b ≡ false → (a || b) ≡ false
-neither-or a b p q = rw (p, q)
 
 -- a list with and without a bad entry, taken apart and put together
 module _ (n v : ℕ) (vs : List ℕ) where

@@ -14,7 +14,7 @@ use Rattle.refusal.specs.Refusal.{given, first, badCount, wrongLength, odd, fir
 use Rattle.refusal.proofs.First.{first-none, first-last, given-none}
 use Rattle.relabel.specs.Relabel.{badOrder, relabelRefusal}
 use Rattle.relabel.specs.LookUp.{Below}
-use Rattle.relabel.proofs.Entries.{or-neither}
+use Rattle.game.proofs.Bools.{or-neither}
 use Rattle.relabel.proofs.Faultless.{faultless-below}
 
 -- a test that applies is the answer, and one that does not is passed over

@@ -1,20 +1,18 @@
 use native.Mathlib.Omega.{arith}
 use mathlib.Core.Path.{refl, sym, _∙_}
-use Rattle.game.proofs.Sound.{true-sound}
 use Rattle.refusal.specs.Answer.{number}
 use Rattle.refusal.proofs.Ends.{ends-refused, ends-accepted}
 use Rattle.forest.specs.Add.{addOutcome}
 use Rattle.forest.proofs.Accepted.{addable}
-use Rattle.forest.proofs.Outcomes.{add-fits, add-faultless, add-ends, filed-roomy}
+use Rattle.forest.proofs.Outcomes.{add-fits, add-faultless, add-extendable, add-ends}
 use borrow.Author.Needs.{needs}
 use Rattle.forest.proofs.adding.add.Statement.{statement}
 use Rattle.forest.proofs.adding.add.Tie as tie
 use Rattle.forest.proofs.adding.add.Reads as reads
 use Rattle.forest.proofs.adding.add.Lts as lts
-use Rattle.bucket.proofs.file_edges.Reads as file-edges-reads
 use Rattle.bucket.proofs.tally.Reads as tally-reads
 use Rattle.forest.proofs.adding.add_refusal.Reads as add-refusal-reads
-use Rattle.forest.proofs.grow.regrow.Reads as regrow-reads
+use Rattle.forest.proofs.putting.extend.Reads as extend-reads
 
 add-refusal-requires : tie.Need-add-refusal-requires
 add-refusal-requires c κs = search needs
@@ -43,15 +41,10 @@ tally-requires c κs =
     let a = addable _ _ (sym (c .before .before .add-refusal .ensures) ∙ c .before .if1 .left) in
     (add-faultless a, add-fits a)
 
-file-edges-requires : tie.Need-file-edges-requires
-file-edges-requires c κs =
-    let a = addable _ _ (sym (c .before .before .before .before .before .before .before .before .add-refusal .ensures) ∙ c .before .before .before .before .before .before .before .if1 .left) in
-    (a .work .ends, (a .net .few, (true-sound (a .net .sound), (a .faultless, (omega (arith, a .light), a .work .lower)))))
-
-regrow-requires : tie.Need-regrow-requires
-regrow-requires c κs =
-    let a = addable _ _ (sym (c .before .before .before .before .before .before .before .before .before .before .before .before .before .before .before .before .before .add-refusal .ensures) ∙ c .before .before .before .before .before .before .before .before .before .before .before .before .before .before .before .before .if1 .left) in
-    filed-roomy (c .before .before .before .before .before .before .before .before .file-edges .ensures) (a .net .few) refl (a .work .jump)
+extend-requires : tie.Need-extend-requires
+extend-requires c κs =
+    let a = addable _ _ (sym (c .before .before .before .before .before .before .before .before .before .add-refusal .ensures) ∙ c .before .before .before .before .before .before .before .before .if1 .left) in
+    add-extendable a
 
 same-length-6 : tie.Need-same-length-6
 same-length-6 c = search needs
@@ -71,9 +64,9 @@ same-length-10 c = search needs
 returns-2 : tie.Need-returns-2
 unfolding number addOutcome
 returns-2 c =
-    let z = sym (c .before .before .before .before .before .before .before .before .before .before .before .before .before .before .before .before .before .before .before .before .before .before .before .before .before .before .add-refusal .ensures) ∙ c .before .before .before .before .before .before .before .before .before .before .before .before .before .before .before .before .before .before .before .before .before .before .before .before .before .if1 .left in
+    let z = sym (c .before .before .before .before .before .before .before .before .before .before .before .before .before .before .before .before .before .before .add-refusal .ensures) ∙ c .before .before .before .before .before .before .before .before .before .before .before .before .before .before .before .before .before .if1 .left in
     ends-accepted _ _ _ (sym z) z
-    (add-ends (addable _ _ z) (c .before .before .before .before .before .before .before .before .before .before .before .before .before .before .before .before .before .before .before .before .before .before .before .tally .ensures) (c .before .before .before .before .before .before .before .before .before .before .before .before .before .before .before .before .before .file-edges .ensures) (c .before .before .before .before .before .before .before .before .before .before .before .before .before .before .before .before .before .file-edges .kept .1 .1 .0) (c .before .before .before .before .before .before .before .before .before .before .before .before .before .before .before .before .before .file-edges .kept .1 .1 .1 .0) (c .before .before .before .before .before .before .before .before .regrow .ensures))
+    (add-ends (addable _ _ z) (c .before .before .before .before .before .before .before .before .before .before .before .before .before .before .before .tally .ensures) (c .before .before .before .before .before .before .before .before .extend .ensures))
 
 pub add-spec : {M : Type 1} → statement M
 add-spec =
@@ -87,8 +80,7 @@ add-spec =
     same-length-5
     returns
     tally-requires
-    file-edges-requires
-    regrow-requires
+    extend-requires
     same-length-6
     same-length-7
     same-length-8

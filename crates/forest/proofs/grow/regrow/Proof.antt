@@ -1,15 +1,16 @@
 use native.Mathlib.Omega.{arith}
-use mathlib.Core.Path.{_≡_, ap, _∙_}
+use mathlib.Core.Path.{_≡_, refl, ap, _∙_}
 use Prim.Native.Nat.{ℕ}
 use lib.ListN.{replicate}
 use Rattle.game.specs.Game.{absent}
-use Rattle.forest.proofs.Rooms.{work-cleared}
+use Rattle.forest.proofs.Rooms.{same-room}
 use borrow.Author.Needs.{needs}
 use Rattle.forest.proofs.grow.regrow.Statement.{statement}
 use Rattle.forest.proofs.grow.regrow.Tie as tie
 use Rattle.forest.proofs.grow.regrow.Reads as reads
 use Rattle.forest.proofs.grow.regrow.Lts as lts
 use Rattle.bucket.proofs.fill.Reads as fill-reads
+use Rattle.forest.proofs.grow.clear.Reads as clear-reads
 use Rattle.forest.proofs.grow.raise.Reads as raise-reads
 
 fill-requires : tie.Need-fill-requires
@@ -25,14 +26,8 @@ raise-requires c κs = record {
   buckets = c .before .before .before .before .before .before .before .before .before .before .before .before .before .before .before .before .pre .buckets;
 }
 
-fill-requires-3 : tie.Need-fill-requires-3
-fill-requires-3 c κs = search needs
-
-fill-requires-4 : tie.Need-fill-requires-4
-fill-requires-4 c κs = search needs
-
-fill-requires-5 : tie.Need-fill-requires-5
-fill-requires-5 c κs = search needs
+clear-requires : tie.Need-clear-requires
+clear-requires c κs = search needs
 
 same-length : tie.Need-same-length
 same-length c = search needs
@@ -48,8 +43,8 @@ same-length-4 c = search needs
 
 returns : tie.Need-returns
 returns c = record {
-  grown = c .before .before .before .before .before .before .before .before .before .before .before .before .before .before .before .before .raise .ensures .raised;
-  clear = work-cleared _ _ _ _ (c .before .before .before .before .before .before .before .before .before .before .before .before .before .before .before .before .raise .kept .1 .1 .1 .0 ∙ c .before .before .before .before .before .before .before .before .before .before .before .before .before .before .before .before .before .before .before .before .before .before .before .fill2 .kept .0) (c .before .before .before .before .before .before .before .before .before .before .fill3 .ensures) (c .before .before .before .before .before .before .fill4 .ensures) (c .before .before .fill5 .ensures);
+  grown = c .before .before .before .before .before .before .before .before .before .before .before .before .before .before .raise .ensures .raised;
+  clear = c .before .before .before .before .before .before .clear .ensures ∙ same-room _ _ _ _ _ _ refl (c .before .before .before .before .before .before .before .before .before .before .before .before .before .before .raise .kept .1 .1 .1 .0 ∙ c .before .before .before .before .before .before .before .before .before .before .before .before .before .before .before .before .before .before .before .before .before .fill2 .kept .0) refl;
 }
 
 pub regrow-spec : {M : Type 1} → statement M
@@ -59,9 +54,7 @@ regrow-spec =
     fill-requires
     fill-requires-2
     raise-requires
-    fill-requires-3
-    fill-requires-4
-    fill-requires-5
+    clear-requires
     same-length
     same-length-2
     same-length-3

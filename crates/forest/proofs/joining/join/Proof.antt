@@ -5,7 +5,8 @@ use Rattle.refusal.specs.Answer.{number}
 use Rattle.refusal.proofs.Ends.{ends-refused, ends-accepted}
 use Rattle.forest.specs.Join.{joinOutcome}
 use Rattle.forest.proofs.Accepted.{joinable}
-use Rattle.forest.proofs.Outcomes.{join-ends, filed-roomy}
+use Rattle.forest.proofs.Outcomes.{join-ends}
+use Rattle.forest.proofs.Regrown.{filed-roomy}
 use borrow.Author.Needs.{needs}
 use Rattle.forest.proofs.joining.join.Statement.{statement}
 use Rattle.forest.proofs.joining.join.Tie as tie

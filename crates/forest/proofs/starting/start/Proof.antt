@@ -42,7 +42,7 @@ returns-2 : tie.Need-returns-2
 unfolding number startOutcome
 returns-2 c =
     let z = sym (c .before .before .before .before .before .before .before .before .before .start-refusal .ensures) ∙ c .before .before .before .before .before .before .before .before .if1 .left in
-    ends-accepted _ _ _ (sym z) z (start-ends (c .before .before .before .before .before .before .before .before .before .before .before .before .before .before .args .parents .now) (c .before .before .before .before .before .before .before .before .before .before .before .before .before .before .args .weights .now) (startable _ z) (c .before .before .before .before .before .before .fill .ensures) (c .before .before .fill2 .ensures))
+    ends-accepted _ _ _ (sym z) z (start-ends (c .before .before .before .before .before .before .before .before .before .before .before .before .before .before .args .parents .now) (c .before .before .before .before .before .before .before .before .before .before .before .before .before .before .args .weights .now) (startable _ z .long) (c .before .before .before .before .before .before .fill .ensures) (c .before .before .fill2 .ensures))
 
 pub start-spec : {M : Type 1} → statement M
 start-spec =

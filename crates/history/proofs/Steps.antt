@@ -1,0 +1,207 @@
+-- What every call keeps, whether it is accepted or refused: each net with a list is the net of its list, each file with a list is the link
+-- file of the net of its list, and the list's edges are sound for the net's vertices.
+-- Assumes nothing.
+use mathlib.Core.Path.{_≡_, refl, sym, ap, ap₂, subst, _∙_}
+use mathlib.Core.Bool.{false}
+use mathlib.Core.List.{List, [], _∷_, _++_}
+use mathlib.Core.Option.{Option, none, some}
+use Prim.Native.Nat.{ℕ, zero, suc, _≤_, _<_, _^_, _*_}
+use native.Mathlib.Omega.{arith}
+use lib.ListN.{length}
+use Rattle.game.specs.Edge.{Edge, edges}
+use Rattle.game.specs.Game.{absent}
+use Rattle.game.specs.Net.{Net, netOf}
+use Rattle.game.proofs.Forest.{forest-length}
+use Rattle.game.proofs.Weights.{weights-length}
+use Rattle.game.proofs.Proper.{Proper, proper-nil, proper-append}
+use Rattle.refusal.specs.Limits.{maxVertices}
+use Rattle.refusal.specs.Refusal.{unless}
+use Rattle.refusal.specs.Outcome.{Outcome, decided}
+use Rattle.refusal.proofs.First.{unless-part}
+use Rattle.refusal.proofs.Fault.{faultless-proper}
+use Rattle.net.specs.Damage.{damaged}
+use Rattle.forest.specs.Work.{Work, Growing, growing, cleared}
+use Rattle.forest.specs.Start.{startRefusal, startOutcome}
+use Rattle.forest.specs.Add.{grown, addRefusal, addOutcome}
+use Rattle.forest.specs.Join.{joined, joinRefusal, joinOutcome}
+use Rattle.forest.proofs.Accepted.{startable, addable, joinable}
+use Rattle.forest.proofs.Laws.{grown-net, joined-net}
+use Rattle.linkfile.specs.LinkFile.{linkFile, fileNet, saveRefusal, saveOutcome, readRefusal, readOutcome}
+use Rattle.linkfile.proofs.Accepted.{save-accepted}
+use Rattle.linkfile.proofs.RoundTrip.{link-file-length, file-net, undamaged-parents, undamaged-weights}
+use Rattle.relabel.specs.Relabel.{relabelOutcome}
+use Rattle.history.specs.World.{World, Call, start, add, join, save, read, relabel, update, withNet, withFile, step}
+use Rattle.history.specs.Book.{Book, Entry, entry, enter, note, behind, started, added, joined as entered, saved, loaded, passed}
+use Rattle.history.proofs.Update.{update-both, update-same}
+
+-- a vertex count that nets may have
+pub record Count (n : ℕ) : Type 0 where
+  pub some : 0 < n
+  pub few : n ≤ maxVertices
+
+pub record NetOf (net : Net) (ts : List Edge) : Type 0 where
+  pub vertices : ℕ
+  pub count : Count vertices
+  pub proper : Proper vertices ts
+  pub is : net ≡ netOf vertices ts
+
+pub record FileOf (bytes : List ℕ) (ts : List Edge) : Type 0 where
+  pub vertices : ℕ
+  pub count : Count vertices
+  pub proper : Proper vertices ts
+  pub is : bytes ≡ linkFile (netOf vertices ts)
+  pub undamaged : damaged (netOf vertices ts) ≡ false
+
+-- of a net and its entry in the book, and of a file and its entry
+pub record NetKept (net : Net) (list : Option (List Edge)) : Type 0 where
+  pub kept : (ts : List Edge) → list ≡ some ts → NetOf net ts
+
+pub record FileKept (bytes : List ℕ) (list : Option (List Edge)) : Type 0 where
+  pub kept : (ts : List Edge) → list ≡ some ts → FileOf bytes ts
+
+pub record Kept (w : World) (b : Book) : Type 0 where
+  pub nets : (i : ℕ) → NetKept (w .nets i) (b .nets i)
+  pub files : (f : ℕ) → FileKept (w .files f) (b .files f)
+
+-- a call that writes one net, or one file: refused it leaves the old one, accepted it has to put in what its entry demands
+net-written : {w : World} {b : Book} (v : Kept w b) (i k : ℕ) (new : Net) (list : Option (List Edge)) (e : Entry) → enter b e ≡ record { nets = update (b .nets) i list; files = b .files } → (k ≡ 0 → NetKept new list) → Kept (withNet w i (unless k (w .nets i) new)) (note b e k)
+unfolding unless note
+net-written {w} {b} v i zero new list e q h =
+    subst (Kept (withNet w i new)) (sym q) (record { nets = update-both NetKept (w .nets) (b .nets) (v .nets) i new list (h refl); files = v .files })
+net-written {w} {b} v i (suc k) new list e q h =
+    record { nets = update-same NetKept (w .nets) (b .nets) (v .nets) i (w .nets i) refl; files = v .files }
+
+file-written : {w : World} {b : Book} (v : Kept w b) (f k : ℕ) (new : List ℕ) (list : Option (List Edge)) (e : Entry) → enter b e ≡ record { nets = b .nets; files = update (b .files) f list } → (k ≡ 0 → FileKept new list) → Kept (withFile w f (unless k (w .files f) new)) (note b e k)
+unfolding unless note
+file-written {w} {b} v f zero new list e q h =
+    subst (Kept (withFile w f new)) (sym q) (record { nets = v .nets; files = update-both FileKept (w .files) (b .files) (v .files) f new list (h refl) })
+file-written {w} {b} v f (suc k) new list e q h =
+    record { nets = v .nets; files = update-same FileKept (w .files) (b .files) (v .files) f (w .files f) refl }
+
+pub net-lengths : (n : ℕ) (ts : List Edge) → (length (netOf n ts .parents) ≡ n) × (length (netOf n ts .weights) ≡ n)
+unfolding netOf
+net-lengths n ts = (forest-length n ts, weights-length n ts)
+
+pub parents-length : {net : Net} {ts : List Edge} (g : NetOf net ts) → length (net .parents) ≡ g .vertices
+parents-length {ts = ts} g = ap (λ (x : Net). length (x .parents)) (g .is) ∙ net-lengths (g .vertices) ts .0
+
+small : {n : ℕ} → Count n → n ≤ absent
+small c = omega (arith, c .few)
+
+-- a list is none, or it is the one that an entry names
+of-list : {net : Net} {us : List Edge} → NetOf net us → NetKept net (some us)
+of-list {net} {us} g = record { kept = λ ts e. let same : us ≡ ts = cc in subst (NetOf net) same g }
+
+of-net : {n : ℕ} {ts : List Edge} → Count n → Proper n ts → NetOf (netOf n ts) ts
+of-net {n} c p = record { vertices = n; count = c; proper = p; is = refl }
+
+pub nothing : {ts : List Edge} → none ≡ some ts → ⊥
+nothing e = let z : _≡_ {A = ℕ} 0 1 = cc in omega arith
+
+-- a list behind a list
+both : (a b : Option (List Edge)) {net : Net} → ((es fs : List Edge) → a ≡ some es → b ≡ some fs → NetOf net (es ++ fs)) → NetKept net (behind a b)
+unfolding behind
+both none b h = record { kept = λ ts e. absurd (nothing e) }
+both (some es) none h = record { kept = λ ts e. absurd (nothing e) }
+both (some es) (some fs) h = of-list (h es fs refl refl)
+
+-- starting
+started-kept : (net : Net) → startRefusal net ≡ 0 → NetKept (netOf (length (net .parents)) []) (some [])
+started-kept net z =
+    let s = startable net z in
+    of-list (of-net (record { some = s .some; few = s .few }) (proper-nil (length (net .parents))))
+
+-- adding
+added-kept : (net : Net) (list : Option (List Edge)) (xs : List ℕ) (work : Work) → NetKept net list → addRefusal (growing net work) xs ≡ 0 → NetKept (grown net (edges xs)) (behind list (some (edges xs)))
+added-kept net list xs work v z = both list (some (edges xs)) go
+  where
+    go : (es fs : List Edge) → list ≡ some es → some (edges xs) ≡ some fs → NetOf (grown net (edges xs)) (es ++ fs)
+    go es fs e f =
+        let g = v .kept es e in
+        let a = addable (growing net work) xs z in
+        let is-fs : edges xs ≡ fs = cc in
+        let proper : Proper (g .vertices) (edges xs) = subst (λ (n : ℕ). Proper n (edges xs)) (parents-length g) (faultless-proper (length (net .parents)) (edges xs) (a .faultless)) in
+        subst (λ (us : List Edge). NetOf (grown net (edges xs)) (es ++ us)) is-fs
+        (record {
+          vertices = g .vertices;
+          count = g .count;
+          proper = proper-append (g .proper) proper;
+          is = ap (λ (x : Net). grown x (edges xs)) (g .is) ∙ grown-net (edges xs) (small (g .count)) (g .proper);
+        })
+
+-- joining
+joined-kept : (net other : Net) (list second : Option (List Edge)) (work : Work) → NetKept net list → NetKept other second → joinRefusal (growing net work) other ≡ 0 → NetKept (joined net other) (behind list second)
+joined-kept net other list second work v u z = both list second go
+  where
+    go : (es fs : List Edge) → list ≡ some es → second ≡ some fs → NetOf (joined net other) (es ++ fs)
+    go es fs e f =
+        let g = v .kept es e in
+        let h = u .kept fs f in
+        let a = joinable (growing net work) other z in
+        let same : h .vertices ≡ g .vertices = sym (parents-length h) ∙ a .same ∙ parents-length g in
+        let proper : Proper (g .vertices) fs = subst (λ (n : ℕ). Proper n fs) same (h .proper) in
+        record {
+          vertices = g .vertices;
+          count = g .count;
+          proper = proper-append (g .proper) proper;
+          is = ap₂ joined (g .is) (h .is ∙ ap (λ (n : ℕ). netOf n fs) same) ∙ joined-net fs (small (g .count)) (g .proper) proper;
+        }
+
+-- saving
+saved-kept : (net : Net) (list : Option (List Edge)) (m : ℕ) → NetKept net list → saveRefusal net m ≡ 0 → FileKept (linkFile net) list
+saved-kept net list m v z = record {
+  kept = λ ts e. let g = v .kept ts e in record {
+    vertices = g .vertices;
+    count = g .count;
+    proper = g .proper;
+    is = ap linkFile (g .is);
+    undamaged = ap damaged (sym (g .is)) ∙ save-accepted net m z .undamaged;
+  };
+}
+
+-- reading
+loaded-kept : (bytes : List ℕ) (list : Option (List Edge)) → FileKept bytes list → NetKept (fileNet bytes) list
+loaded-kept bytes list v = record {
+  kept = λ ts e. let g = v .kept ts e in record {
+    vertices = g .vertices;
+    count = g .count;
+    proper = g .proper;
+    is = ap fileNet (g .is) ∙ back ts g;
+  };
+}
+  where
+    back : (ts : List Edge) (g : FileOf bytes ts) → fileNet (linkFile (netOf (g .vertices) ts)) ≡ netOf (g .vertices) ts
+    back ts g =
+        let of : Net = netOf (g .vertices) ts in
+        let few : length (of .parents) ≤ maxVertices = omega (arith, net-lengths (g .vertices) ts .0, g .count .few) in
+        file-net of (net-lengths (g .vertices) ts .1 ∙ sym (net-lengths (g .vertices) ts .0))
+        (undamaged-parents of few (g .undamaged)) (undamaged-weights of few (g .undamaged))
+
+-- a call that stands between
+note-passed : (b : Book) (k : ℕ) → note b passed k ≡ b
+unfolding note enter
+note-passed b zero = refl
+note-passed b (suc k) = refl
+
+-- every call
+pub step-keeps : {w : World} {b : Book} (c : Call) → Kept w b → Kept (step w c .tables) (note b (entry c) (step w c .answer))
+unfolding step entry decided enter startOutcome addOutcome joinOutcome saveOutcome readOutcome
+step-keeps {w} {b} (start i) v =
+    net-written v i (startRefusal (w .nets i)) (netOf (length (w .nets i .parents)) []) (some []) (started i) refl (started-kept (w .nets i))
+step-keeps {w} {b} (add i xs work) v =
+    subst (λ (x : Net). Kept (withNet w i x) (note b (added i xs) (addRefusal (growing (w .nets i) work) xs)))
+    (sym (unless-part (λ (g : Growing). g .net) (addRefusal (growing (w .nets i) work) xs) (growing (w .nets i) work) (growing (grown (w .nets i) (edges xs)) (cleared work))))
+    (net-written v i (addRefusal (growing (w .nets i) work) xs) (grown (w .nets i) (edges xs)) (behind (b .nets i) (some (edges xs))) (added i xs) refl
+    (added-kept (w .nets i) (b .nets i) xs work (v .nets i)))
+step-keeps {w} {b} (join i j different work) v =
+    subst (λ (x : Net). Kept (withNet w i x) (note b (entered i j) (joinRefusal (growing (w .nets i) work) (w .nets j))))
+    (sym (unless-part (λ (g : Growing). g .net) (joinRefusal (growing (w .nets i) work) (w .nets j)) (growing (w .nets i) work) (growing (joined (w .nets i) (w .nets j)) (cleared work))))
+    (net-written v i (joinRefusal (growing (w .nets i) work) (w .nets j)) (joined (w .nets i) (w .nets j)) (behind (b .nets i) (b .nets j)) (entered i j) refl
+    (joined-kept (w .nets i) (w .nets j) (b .nets i) (b .nets j) work (v .nets i) (v .nets j)))
+step-keeps {w} {b} (save i f) v =
+    file-written v f (saveRefusal (w .nets i) (length (w .files f))) (linkFile (w .nets i)) (b .nets i) (saved i f) refl
+    (saved-kept (w .nets i) (b .nets i) (length (w .files f)) (v .nets i))
+step-keeps {w} {b} (read i f) v =
+    net-written v i (readRefusal (length (w .nets i .parents)) (length (w .nets i .weights)) (w .files f)) (fileNet (w .files f)) (b .files f) (loaded i f) refl
+    (λ z. loaded-kept (w .files f) (b .files f) (v .files f))
+step-keeps {w} {b} (relabel order xs tables) v = subst (Kept w) (sym (note-passed b (relabelOutcome order xs tables .answer))) v

@@ -1,0 +1,50 @@
+-- No history of calls can bend the result: the theorem, for any world at first and any list of calls.
+-- Assumes nothing.
+use mathlib.Core.Path.{_≡_, refl, sym, ap, _∙_}
+use mathlib.Core.List.{List, [], _∷_}
+use mathlib.Core.Option.{none, some}
+use Prim.Native.Nat.{ℕ, _*_}
+use native.Mathlib.Omega.{arith}
+use lib.ListN.{length}
+use Rattle.game.specs.Edge.{Edge}
+use Rattle.game.specs.Net.{Net, netOf}
+use Rattle.game.proofs.Order.{Same, net-order}
+use Rattle.linkfile.specs.LinkFile.{linkFile}
+use Rattle.linkfile.proofs.RoundTrip.{link-file-length}
+use Rattle.history.specs.World.{World, Call, step}
+use Rattle.history.specs.Book.{Book, entry, note, blank}
+use Rattle.history.specs.History.{worldAfter, bookAfter, NetHolds, FileHolds, Holds}
+use Rattle.history.proofs.Steps.{NetOf, FileOf, NetKept, FileKept, Kept, nothing, net-lengths, parents-length, step-keeps}
+
+-- what is kept is what is claimed
+net-holds : {net : Net} {ts : List Edge} → NetOf net ts → NetHolds net ts
+net-holds {net} {ts} g = record { is = of ts (g .is); any-order = λ us s. of us (g .is ∙ net-order (g .vertices) s) }
+  where
+    of : (us : List Edge) → net ≡ netOf (g .vertices) us → net ≡ netOf (length (net .parents)) us
+    of us e = e ∙ ap (λ (n : ℕ). netOf n us) (sym (parents-length g))
+
+file-holds : {bytes : List ℕ} {ts : List Edge} → FileOf bytes ts → FileHolds bytes ts
+file-holds {bytes} {ts} g =
+    let n = g .vertices in
+    let l = net-lengths n ts in
+    record {
+      vertices = n;
+      whole = ap length (g .is) ∙ link-file-length (netOf n ts) (l .1 ∙ sym (l .0)) ∙ ap (λ (m : ℕ). 8 * m) (l .0);
+      is = g .is;
+    }
+
+-- nothing is claimed at first
+blank-kept : (w : World) → Kept w blank
+unfolding blank
+blank-kept w = record { nets = λ i. record { kept = λ ts e. absurd (nothing e) }; files = λ f. record { kept = λ ts e. absurd (nothing e) } }
+
+kept-after : {w : World} {b : Book} (cs : List Call) → Kept w b → Kept (worldAfter w cs) (bookAfter w b cs)
+unfolding worldAfter bookAfter
+kept-after [] v = v
+kept-after (c ∷ cs) v = kept-after cs (step-keeps c v)
+
+-- After every list of calls, whatever the tables held at first.
+pub history : (w : World) (cs : List Call) → Holds (worldAfter w cs) (bookAfter w blank cs)
+history w cs =
+    let v = kept-after cs (blank-kept w) in
+    record { nets = λ i ts e. net-holds (v .nets i .kept ts e); files = λ f ts e. file-holds (v .files f .kept ts e) }

@@ -1,0 +1,62 @@
+-- The book of ties: for each net and file a list of edges, or none.
+--
+-- Document 01: "The book is fed which nets and file each call was lent, the tie list of an addition, and whether the call was
+-- accepted. It never looks into parents, loads or a file's bytes. For each net and file it keeps a list of ties in ranks, or none. At
+-- first all have none."
+-- Assumes nothing.
+use mathlib.Core.Bool.{Bool, true, false}
+use mathlib.Core.List.{List, [], _++_}
+use mathlib.Core.Option.{Option, none, some}
+use Prim.Native.Nat.{ℕ, zero, suc}
+use Rattle.game.specs.Edge.{Edge, edges}
+use Rattle.history.specs.World.{Call, start, add, join, save, read, relabel, update}
+
+pub record Book : Type 0 where
+  pub nets : ℕ → Option (List Edge)
+  pub files : ℕ → Option (List Edge)
+
+-- what the book is fed of a call
+pub data Entry : Type 0 where
+  started : (net : ℕ) → Entry
+  added : (net : ℕ) (edges : List ℕ) → Entry
+  joined : (net other : ℕ) → Entry
+  saved : (net file : ℕ) → Entry
+  loaded : (net file : ℕ) → Entry
+  passed : Entry
+
+unfoldable pub entry : Call → Entry
+entry (start i) = started i
+entry (add i xs work) = added i xs
+entry (join i j different work) = joined i j
+entry (save i f) = saved i f
+entry (read i f) = loaded i f
+entry (relabel order xs tables) = passed
+
+-- a list behind a list; none, if either is none
+unfoldable pub behind : Option (List Edge) → Option (List Edge) → Option (List Edge)
+behind none b = none
+behind (some es) none = none
+behind (some es) (some fs) = some (es ++ fs)
+
+-- an accepted call's entry:
+-- "Start: the net's list is empty, with no tie in it.
+--  Add: the ties given go behind the net's list. A net that has none keeps none.
+--  Join: the second net's list goes behind the first's. If either has none, the first then has none.
+--  Save: the file gets the net's list, or none if the net has none.
+--  Read: the net gets the file's list, or none if the file has none."
+unfoldable pub enter : Book → Entry → Book
+enter b (started i) = record { nets = update (b .nets) i (some []); files = b .files }
+enter b (added i xs) = record { nets = update (b .nets) i (behind (b .nets i) (some (edges xs))); files = b .files }
+enter b (joined i j) = record { nets = update (b .nets) i (behind (b .nets i) (b .nets j)); files = b .files }
+enter b (saved i f) = record { nets = b .nets; files = update (b .files) f (b .nets i) }
+enter b (loaded i f) = record { nets = update (b .nets) i (b .files f); files = b .files }
+enter b passed = b
+
+-- "Refused: nothing changes." A call was accepted if its answer is 0.
+unfoldable pub note : Book → Entry → ℕ → Book
+note b e zero = enter b e
+note b e (suc k) = b
+
+-- "At first all have none."
+unfoldable pub blank : Book
+blank = record { nets = λ i. none; files = λ f. none }

@@ -1,0 +1,43 @@
+-- The one theorem over every list of calls: its statement.
+--
+-- Document 01: "After the calls each net with a list holds the net of it, which is also the net of the same ties in any other order;
+-- each file with a list holds the link file of the net of its own list."
+-- Assumes nothing.
+use mathlib.Core.Path.{_≡_}
+use mathlib.Core.List.{List, [], _∷_}
+use mathlib.Core.Option.{Option, some}
+use Prim.Native.Nat.{ℕ, _*_}
+use lib.ListN.{length}
+use Rattle.game.specs.Edge.{Edge}
+use Rattle.game.specs.Net.{Net, netOf}
+use Rattle.game.proofs.Order.{Same}
+use Rattle.refusal.specs.Outcome.{Outcome}
+use Rattle.linkfile.specs.LinkFile.{linkFile}
+use Rattle.history.specs.World.{World, Call, step}
+use Rattle.history.specs.Book.{Book, entry, note}
+
+-- the world and the book after a list of calls: "Each call finds every net and file as the call before left it"
+unfoldable pub worldAfter : World → List Call → World
+worldAfter w [] = w
+worldAfter w (c ∷ cs) = worldAfter (step w c .tables) cs
+
+unfoldable pub bookAfter : World → Book → List Call → Book
+bookAfter w b [] = b
+bookAfter w b (c ∷ cs) = bookAfter (step w c .tables) (note b (entry c) (step w c .answer)) cs
+
+-- what a net with a list holds
+pub record NetHolds (net : Net) (ts : List Edge) : Type 0 where
+  pub is : net ≡ netOf (length (net .parents)) ts
+  -- in any other order, and with the ends of any edge turned
+  pub any-order : (us : List Edge) → Same ts us → net ≡ netOf (length (net .parents)) us
+
+-- what a file with a list holds
+pub record FileHolds (bytes : List ℕ) (ts : List Edge) : Type 0 where
+  pub vertices : ℕ
+  pub whole : length bytes ≡ 8 * vertices
+  pub is : bytes ≡ linkFile (netOf vertices ts)
+
+-- every net and file with a list in the book holds what its list demands
+pub record Holds (w : World) (b : Book) : Type 0 where
+  pub nets : (i : ℕ) (ts : List Edge) → b .nets i ≡ some ts → NetHolds (w .nets i) ts
+  pub files : (f : ℕ) (ts : List Edge) → b .files f ≡ some ts → FileHolds (w .files f) ts

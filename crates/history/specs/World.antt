@@ -1,0 +1,65 @@
+-- The world of a history: any number of nets and link files, each with tables of its own, of any length, holding anything at first;
+-- and what a call does to it. A step is made of the very definitions that the calls' contracts equate their outcomes with.
+--
+-- Document 01, The book of ties: "The list holds starting, adding, joining, saving and reading, accepted or refused, in any mix, over
+-- any number of nets and link files (the bytes lent to a save or a reading). Each net and file has tables of its own, of any length;
+-- a join is lent two different nets. At first the tables hold anything. .. Translating, dividing and reporting, accepted or refused,
+-- may stand between; none of these tables is lent to them to be written."
+-- Assumes nothing.
+use mathlib.Core.Path.{_≡_}
+use mathlib.Core.Bool.{cond}
+use mathlib.Core.List.{List}
+use Prim.Native.Nat.{ℕ}
+use lib.Dec.{eqb}
+use Rattle.game.specs.Net.{Net}
+use Rattle.refusal.specs.Outcome.{Outcome}
+use Rattle.forest.specs.Work.{Work, growing}
+use Rattle.forest.specs.Start.{startOutcome}
+use Rattle.forest.specs.Add.{addOutcome}
+use Rattle.forest.specs.Join.{joinOutcome}
+use Rattle.linkfile.specs.LinkFile.{saveOutcome, readOutcome}
+use Rattle.relabel.specs.Relabel.{Tables, relabelOutcome}
+
+-- nets and files by number; a file is its bytes
+pub record World : Type 0 where
+  pub nets : ℕ → Net
+  pub files : ℕ → List ℕ
+
+-- A call, with what it is lent: nets and files by number, anything else by its content. A list of edges is raw numbers, of any
+-- length; work tables hold anything.
+pub data Call : Type 0 where
+  start : (net : ℕ) → Call
+  add : (net : ℕ) (edges : List ℕ) (work : Work) → Call
+  join : (net other : ℕ) → (net ≡ other → ⊥) → (work : Work) → Call
+  save : (net file : ℕ) → Call
+  read : (net file : ℕ) → Call
+  relabel : (order edges : List ℕ) (tables : Tables) → Call
+
+-- f with the value at i put in the place of the old one
+unfoldable pub update : {A : Type 0} → (ℕ → A) → ℕ → A → ℕ → A
+update f i x k = cond (eqb k i) x (f k)
+
+abbrev pub withNet : World → ℕ → Net → World
+withNet w i net = record { nets = update (w .nets) i net; files = w .files }
+
+abbrev pub withFile : World → ℕ → List ℕ → World
+withFile w f bytes = record { nets = w .nets; files = update (w .files) f bytes }
+
+-- the call's answer, and the world after it
+unfoldable pub step : World → Call → Outcome World
+step w (start i) =
+    let o : Outcome Net = startOutcome (w .nets i) in
+    record { answer = o .answer; tables = withNet w i (o .tables) }
+step w (add i xs work) =
+    let o = addOutcome (growing (w .nets i) work) xs in
+    record { answer = o .answer; tables = withNet w i (o .tables .net) }
+step w (join i j different work) =
+    let o = joinOutcome (growing (w .nets i) work) (w .nets j) in
+    record { answer = o .answer; tables = withNet w i (o .tables .net) }
+step w (save i f) =
+    let o : Outcome (List ℕ) = saveOutcome (w .nets i) (w .files f) in
+    record { answer = o .answer; tables = withFile w f (o .tables) }
+step w (read i f) =
+    let o : Outcome Net = readOutcome (w .nets i) (w .files f) in
+    record { answer = o .answer; tables = withNet w i (o .tables) }
+step w (relabel order xs tables) = record { answer = relabelOutcome order xs tables .answer; tables = w }

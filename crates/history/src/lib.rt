@@ -1,0 +1,1 @@
+// No code: the theorem about every list of calls.

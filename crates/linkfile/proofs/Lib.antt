@@ -1,0 +1,4 @@
+pub mod Records
+pub mod Check
+pub mod Accepted
+pub mod RoundTrip

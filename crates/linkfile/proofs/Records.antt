@@ -1,0 +1,128 @@
+-- Records of a link file, as loops write and read them one at a time, and the four bytes of an absent parent.
+-- Assumes nothing.
+use mathlib.Core.Path.{_≡_, refl, sym, ap, ap₂, _∙_}
+use mathlib.Core.Logic.{by-cases}
+use mathlib.Core.Bool.{_&&_, and-false}
+use mathlib.Core.List.{List, [], _∷_, _++_, append-assoc, append-nil}
+use Prim.Native.Nat.{ℕ, _+_, _*_, _/_, _≤_, _<_}
+use native.Mathlib.Decide.{ℕ-discrete}
+use native.Mathlib.Numerals.{add-one}
+use native.Mathlib.Omega.{arith}
+use lib.Dec.{eqb}
+use lib.ListN.{length, getD, take, drop, set, drop-of-length-le}
+use lib.Seq.{drop-cons, take-all, take-suc-set, append-snoc, sets}
+use borrow.Author.Tests.{eq-eqb, ne-eqb}
+use Rattle.words.specs.Word.{wordBytes, wordOf, wordAt, bytesOf, words}
+use Rattle.words.proofs.Bytes.{words-drop, words-length}
+use Rattle.words.proofs.Stores.{stores-append, stores-take}
+use Rattle.game.specs.Game.{absent}
+use Rattle.game.specs.Net.{Net}
+use Rattle.game.specs.Net.{net as lent}
+use Rattle.linkfile.specs.LinkFile.{records, linkFile, recordParents, recordWeights, fileNet}
+
+-- four bytes are all FF exactly if their word is absent
+absent-bytes : (a b c d : ℕ) → a < 256 → b < 256 → c < 256 → d < 256
+    → (eqb a 255 && eqb b 255 && eqb c 255 && eqb d 255) ≡ eqb (wordOf a b c d) absent
+unfolding wordOf
+absent-bytes a b c d ha hb hc hd =
+    by-cases (ℕ-discrete a 255)
+    (λ (ea : a ≡ 255). by-cases (ℕ-discrete b 255)
+    (λ (eb : b ≡ 255). by-cases (ℕ-discrete c 255)
+    (λ (ec : c ≡ 255). by-cases (ℕ-discrete d 255)
+    (λ (ed : d ≡ 255). rw (eq-eqb a 255 ea, eq-eqb b 255 eb, eq-eqb c 255 ec, eq-eqb d 255 ed) (sym (eq-eqb word absent (omega arith))))
+    (λ (nd : d ≡ 255 → ⊥). rw (ne-eqb d 255 nd, and-false) (sym (ne-eqb word absent (λ e. omega arith)))))
+    (λ (nc : c ≡ 255 → ⊥). rw (ne-eqb c 255 nc, and-false) (sym (ne-eqb word absent (λ e. omega arith)))))
+    (λ (nb : b ≡ 255 → ⊥). rw (ne-eqb b 255 nb, and-false) (sym (ne-eqb word absent (λ e. omega arith)))))
+    (λ (na : a ≡ 255 → ⊥). rw (ne-eqb a 255 na) (sym (ne-eqb word absent (λ e. omega arith))))
+  where
+    word : ℕ
+    word = a + 256 * b + 65536 * c + 16777216 * d
+
+-- the same of four bytes of a file
+pub absent-at : (bytes : List ℕ) (at : ℕ) → ((i : ℕ) → getD bytes i 0 < 256)
+    → (eqb (getD bytes at 0) 255 && eqb (getD bytes (at + 1) 0) 255 && eqb (getD bytes (at + 2) 0) 255 && eqb (getD bytes (at + 3) 0) 255)
+    ≡ eqb (wordAt bytes at) absent
+unfolding wordAt
+absent-at bytes at h = absent-bytes _ _ _ _ (h at) (h (at + 1)) (h (at + 2)) (h (at + 3))
+
+-- the stores of two words are those of a record
+pub record-stores : (bytes : List ℕ) (at p w : ℕ) → sets (sets bytes at (wordBytes p)) (at + 4) (wordBytes w) ≡ sets bytes at (wordBytes p ++ wordBytes w)
+unfolding wordBytes
+record-stores bytes at p w = stores-append bytes (wordBytes p) (wordBytes w) at
+
+-- A loop that saves, at rank r of a net: the records before it are in the bytes, and what is left are those from r on.
+module _ (parents weights bytes : List ℕ) (r : ℕ) where
+  pub save-turn : (after : List ℕ) → length weights ≡ length parents → length bytes ≡ 8 * length parents → r < length parents
+      → after ≡ sets bytes (8 * r) (wordBytes (getD parents r 0) ++ wordBytes (getD weights r 0))
+      → take (8 * (r + 1)) after ++ linkFile (lent (drop (r + 1) parents) (drop (r + 1) weights))
+      ≡ take (8 * r) bytes ++ linkFile (lent (drop r parents) (drop r weights))
+  unfolding linkFile records bytesOf wordBytes
+  save-turn after ew eb h stored =
+      let e : 8 * (r + 1) ≡ 8 * r + 8 = omega arith in
+      let hw : r < length weights = omega arith in
+      rw (stored, e, add-one, drop-cons parents r 0 h, drop-cons weights r 0 hw, stores-take bytes (wordBytes (getD parents r 0) ++ wordBytes (getD weights r 0)) (8 * r) (omega arith), append-assoc)
+
+  -- at the end all are in the bytes
+  pub save-end : length bytes ≡ 8 * length parents → length parents ≤ r → take (8 * r) bytes ++ linkFile (lent (drop r parents) (drop r weights)) ≡ bytes
+  unfolding linkFile records bytesOf
+  save-end e h = rw (drop-of-length-le parents h, append-nil) (take-all (8 * r) bytes (omega arith))
+
+-- What is left of a file at record r is the record that stands there and what is left one record on.
+pub file-drop : (bytes : List ℕ) (r : ℕ) → 8 * r + 8 ≤ length bytes
+    → fileNet (drop (8 * r) bytes)
+    ≡ lent (wordAt bytes (8 * r) ∷ fileNet (drop (8 * (r + 1)) bytes) .parents) (wordAt bytes (8 * r + 4) ∷ fileNet (drop (8 * (r + 1)) bytes) .weights)
+unfolding fileNet recordParents recordWeights
+file-drop bytes r h =
+    let e : 8 * (r + 1) ≡ 8 * r + 4 + 4 = omega arith in
+    let h₁ : 8 * r + 4 ≤ length bytes = omega arith in
+    let h₂ : 8 * r + 4 + 4 ≤ length bytes = omega arith in
+    rw (e, words-drop bytes (8 * r) h₁, words-drop bytes (8 * r + 4) h₂)
+
+-- after the last record nothing is left
+pub file-end : (bytes : List ℕ) (r : ℕ) → length bytes ≤ 8 * r → fileNet (drop (8 * r) bytes) ≡ lent [] []
+unfolding fileNet words recordParents recordWeights
+file-end bytes r h = rw (drop-of-length-le bytes h)
+
+columns-length : (xs : List ℕ) → (length (recordParents xs) ≡ length xs / 2) × (length (recordWeights xs) ≡ length xs / 2)
+unfolding recordParents recordWeights
+columns-length [] = (refl, refl)
+columns-length (p ∷ []) = (refl, refl)
+columns-length (p ∷ w ∷ xs) = let h = columns-length xs in (omega arith, omega arith)
+
+-- a file of n records says a net of n vertices
+pub file-lengths : (bytes : List ℕ) (n : ℕ) → length bytes ≡ 8 * n → (length (fileNet bytes .parents) ≡ n) × (length (fileNet bytes .weights) ≡ n)
+unfolding fileNet
+file-lengths bytes n whole =
+    let h = columns-length (words bytes) in
+    let w = words-length bytes in
+    (omega arith, omega arith)
+
+-- A table that is filled from the front with the entries of another, all: what is left of it at r begins with u.
+fill-turn : (xs : List ℕ) (r : ℕ) {left rest all : List ℕ} {u v : ℕ} → r < length xs → left ≡ u ∷ rest → v ≡ u → take r xs ++ left ≡ all → take (r + 1) (set xs r v) ++ rest ≡ all
+fill-turn xs r {rest = rest} {v = v} h e f t =
+    rw (add-one, take-suc-set xs r v h, append-snoc) (ap (λ (x : ℕ). take r xs ++ (x ∷ rest)) f ∙ ap (λ (ys : List ℕ). take r xs ++ ys) (sym e) ∙ t)
+
+-- nothing is left
+fill-end : (xs : List ℕ) (r : ℕ) {left all : List ℕ} → length xs ≤ r → left ≡ [] → take r xs ++ left ≡ all → xs ≡ all
+fill-end xs r h e t = sym (take-all r xs h) ∙ sym (append-nil (take r xs)) ∙ ap (λ (ys : List ℕ). take r xs ++ ys) (sym e) ∙ t
+
+-- A loop that reads, at record r of a file: the tables hold the records before it, and what is left are those from r on.
+pub record Taken (bytes parents weights : List ℕ) (r : ℕ) : Type 0 where
+  pub parents-so-far : take r parents ++ fileNet (drop (8 * r) bytes) .parents ≡ fileNet bytes .parents
+  pub weights-so-far : take r weights ++ fileNet (drop (8 * r) bytes) .weights ≡ fileNet bytes .weights
+
+pub taken-none : (bytes parents weights : List ℕ) → Taken bytes parents weights 0
+taken-none bytes parents weights = record { parents-so-far = refl; weights-so-far = refl }
+
+module _ {bytes parents weights : List ℕ} {n r : ℕ} (whole : length bytes ≡ 8 * n) (ep : length parents ≡ n) (ew : length weights ≡ n) (t : Taken bytes parents weights r) where
+  -- the record here goes into the tables
+  pub taken-turn : {p w : ℕ} → r < n → p ≡ wordAt bytes (8 * r) → w ≡ wordAt bytes (8 * r + 4) → Taken bytes (set parents r p) (set weights r w) (r + 1)
+  taken-turn h fp fw =
+      let here = file-drop bytes r (omega arith) in
+      record { parents-so-far = fill-turn parents r (omega arith) (ap (λ (net : Net). net .parents) here) fp (t .parents-so-far); weights-so-far = fill-turn weights r (omega arith) (ap (λ (net : Net). net .weights) here) fw (t .weights-so-far) }
+
+  -- at the end they hold all
+  pub taken-end : n ≤ r → lent parents weights ≡ fileNet bytes
+  taken-end h =
+      let none = file-end bytes r (omega arith) in
+      ap₂ lent (fill-end parents r (omega arith) (ap (λ (net : Net). net .parents) none) (t .parents-so-far)) (fill-end weights r (omega arith) (ap (λ (net : Net). net .weights) none) (t .weights-so-far))

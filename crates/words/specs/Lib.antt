@@ -1,0 +1,2 @@
+-- Files as numbers.
+pub mod Word
