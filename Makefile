@@ -1,0 +1,61 @@
+# The library for C and for what calls C: target/lib/libniqastul.a and target/lib/libniqastul.so, from the proved crate `exports`.
+#   make                       build (rt proves what it has not proved yet)
+#   make install PREFIX=/usr   the header, both libraries and niqastul.pc; DESTDIR is put before it
+#   make check                 the tests of the library and of the bindings
+#   make bench                 the measurements
+PREFIX = /usr/local
+LIBDIR = $(PREFIX)/lib
+INCLUDEDIR = $(PREFIX)/include
+VERSION = 0.1.0
+SONAME = libniqastul.so.0
+
+SOURCES := crates.txt $(shell find crates -name '*.rt' -o -name '*.antt')
+
+.PHONY: all install uninstall check bench clean
+
+all: target/lib/libniqastul.a target/lib/libniqastul.so
+
+target/lib/libniqastul.a: $(SOURCES)
+	mkdir -p target/lib
+	rt staticlib exports >target/lib/rt.log 2>&1 || { cat target/lib/rt.log; exit 1; }
+	cp target/staticlib/libexports.a $@
+
+target/lib/$(SONAME): target/lib/libniqastul.a
+	$(CC) -shared -Wl,-soname,$(SONAME) -Wl,-z,defs -Wl,--whole-archive $< -Wl,--no-whole-archive -o $@
+
+target/lib/libniqastul.so: target/lib/$(SONAME)
+	ln -sf $(SONAME) $@
+
+define PKG_CONFIG
+prefix=$(PREFIX)
+libdir=$(LIBDIR)
+includedir=$(INCLUDEDIR)
+
+Name: niqastul
+Description: Elimination forests of graphs, grown, joined and divided; proved
+Version: $(VERSION)
+Libs: -L$${libdir} -lniqastul
+Cflags: -I$${includedir}
+endef
+export PKG_CONFIG
+
+install: all
+	install -d $(DESTDIR)$(INCLUDEDIR) $(DESTDIR)$(LIBDIR)/pkgconfig
+	install -m 644 include/niqastul.h $(DESTDIR)$(INCLUDEDIR)/
+	install -m 644 target/lib/libniqastul.a $(DESTDIR)$(LIBDIR)/
+	install -m 755 target/lib/$(SONAME) $(DESTDIR)$(LIBDIR)/
+	ln -sf $(SONAME) $(DESTDIR)$(LIBDIR)/libniqastul.so
+	echo "$$PKG_CONFIG" > $(DESTDIR)$(LIBDIR)/pkgconfig/niqastul.pc
+
+uninstall:
+	cd $(DESTDIR)$(LIBDIR) && rm -f libniqastul.a libniqastul.so $(SONAME) pkgconfig/niqastul.pc
+	rm -f $(DESTDIR)$(INCLUDEDIR)/niqastul.h
+
+check: all
+	tests/run
+
+bench: all
+	bench/run
+
+clean:
+	rm -rf target/lib

@@ -1,0 +1,193 @@
+/* Measures the public calls beside their peers, in one run on the same nets, the best of several runs of each. Prints a line for each
+ * measurement, its fields separated by tabs: what, family, vertices, edges, then pairs of a name and milliseconds.
+ *
+ *     bench [MOST [FAMILY]]        up to so many vertices; only families whose name begins so */
+#include "nets.h"
+#include "peers.h"
+
+#include <malloc.h>
+#include <niqastul.h>
+#include <stdio.h>
+#include <stdlib.h>
+#include <string.h>
+#include <time.h>
+
+enum { ROUNDS = 15, FEW = 100 };
+
+/* The time that this program had a processor, in milliseconds: what else runs on the machine counts less. */
+static double now(void)
+{
+    struct timespec t;
+    clock_gettime(CLOCK_PROCESS_CPUTIME_ID, &t);
+    return (double)t.tv_sec * 1e3 + (double)t.tv_nsec / 1e6;
+}
+
+/* Runs a statement after another that is not measured, and keeps the least time that it ever took. */
+#define TIME(best, before, statement)          \
+    do {                                       \
+        before;                                \
+        double began_ = now();                 \
+        statement;                             \
+        double took_ = now() - began_;         \
+        best = took_ < best ? took_ : best;    \
+    } while (0)
+
+static void must(int holds, const char *what)
+{
+    if (!holds) {
+        fprintf(stderr, "bench: %s\n", what);
+        exit(1);
+    }
+}
+
+static void *room(size_t count, size_t size)
+{
+    void *p = malloc(count * size + 1);
+    must(p != NULL, "out of memory");
+    memset(p, 1, count * size);
+    return p;
+}
+
+static struct tables make_tables(size_t n, size_t m)
+{
+    return (struct tables){room(n, 4), room(n, 4), room(n, 4), room(n, 4), room(n + (m > n ? m : n), 4), room(n, 4), room(n, 4),
+                           room(2 * m, 4), room(n + 1, sizeof(int)), room(m, sizeof(int)), room(8 * n, 1)};
+}
+
+static void free_tables(struct tables *t)
+{
+    void *all[] = {t->parents, t->weights, t->ends, t->jump, t->lower, t->parents2, t->weights2, t->ranks, t->start, t->row, t->bytes};
+    for (size_t i = 0; i < sizeof all / sizeof *all; i++)
+        free(all[i]);
+}
+
+static void start(uint32_t *parents, uint32_t *weights, size_t n)
+{
+    must(niqastul_start(parents, n, weights, n) == 0, "start refused");
+}
+
+static void add(struct tables *t, uint32_t *parents, uint32_t *weights, size_t n, const uint32_t *edges, size_t m)
+{
+    must(niqastul_add(parents, n, weights, n, edges, 2 * m, t->ends, n, t->jump, n, t->lower, n + m) == 0, "add refused");
+}
+
+static void join(struct tables *t, size_t n)
+{
+    must(niqastul_join(t->parents, n, t->weights, n, t->parents2, n, t->weights2, n, t->ends, n, t->jump, n, t->lower, 2 * n) == 0,
+         "join refused");
+}
+
+static void relabel(const struct net *net, struct tables *t)
+{
+    size_t n = net->vertices, m = 2 * net->edges;
+    must(niqastul_relabel(net->order, n, net->list, m, t->ranks, m, t->ends, n) == 0, "relabel refused");
+}
+
+static void save(struct tables *t, size_t n)
+{
+    must(niqastul_save(t->parents, n, t->weights, n, t->bytes, 8 * n) == 0, "save refused");
+}
+
+static void read(struct tables *t, size_t n)
+{
+    must(niqastul_read(t->parents, n, t->weights, n, t->bytes, 8 * n) == 0, "read refused");
+}
+
+/* One pass over a net's tables: the least that a call which checks its net can take. */
+static uint64_t pass(const uint32_t *parents, const uint32_t *weights, size_t n)
+{
+    uint64_t sum = 0;
+    for (size_t x = 0; x < n; x++)
+        sum += parents[x] ^ weights[x];
+    return sum;
+}
+
+static volatile uint64_t sink;
+
+static void row(const char *what, const char *family, const struct net *net)
+{
+    printf("%s\t%s\t%zu\t%zu", what, family, net->vertices, net->edges);
+}
+
+/* Every contender runs once in each round, so that what else the machine does meets all alike. */
+static void measure(const char *family, const struct net *net)
+{
+    size_t n = net->vertices, m = net->edges, half = m / 2, few = m < FEW ? m : FEW;
+    struct tables t = make_tables(n, m);
+    uint32_t *first = room(n, 4), *first_weights = room(n, 4), *second = room(n, 4), *second_weights = room(n, 4);
+    uint32_t *most = room(n, 4), *most_weights = room(n, 4);
+    int *parents = NULL;
+    double grow, peer, triplets, plain, added, one_pass, joined, plain_joined, relabelled, plain_relabelled;
+    double saved, plain_saved, was_read, plain_was_read;
+    grow = peer = triplets = plain = added = one_pass = joined = plain_joined = relabelled = plain_relabelled = 1e300;
+    saved = plain_saved = was_read = plain_was_read = 1e300;
+
+    start(first, first_weights, n);
+    add(&t, first, first_weights, n, net->list, half);
+    start(second, second_weights, n);
+    add(&t, second, second_weights, n, net->list + 2 * half, m - half);
+    start(most, most_weights, n);
+    add(&t, most, most_weights, n, net->list, m - few);
+    for (int round = 0; round < ROUNDS; round++) {
+        TIME(triplets, free(parents), parents = suitesparse_etree_by_triplets(net));
+        TIME(peer, free(parents), parents = suitesparse_etree(net, &t));
+        TIME(plain, , plain_grow(net, &t));
+        must(!memcmp(parents, t.parents, 4 * n), "plain C and SuiteSparse disagree");
+
+        TIME(grow, memset(t.parents, 1, 4 * n), (start(t.parents, t.weights, n), add(&t, t.parents, t.weights, n, net->list, m)));
+        must(!memcmp(parents, t.parents, 4 * n), "the library and SuiteSparse disagree on growing");
+
+        TIME(added, (memcpy(t.parents, most, 4 * n), memcpy(t.weights, most_weights, 4 * n)),
+             add(&t, t.parents, t.weights, n, net->list + 2 * (m - few), few));
+        must(!memcmp(parents, t.parents, 4 * n), "the library and SuiteSparse disagree on adding");
+        TIME(one_pass, , sink = pass(t.parents, t.weights, n));
+
+        memcpy(t.parents2, second, 4 * n), memcpy(t.weights2, second_weights, 4 * n);
+        TIME(plain_joined, memcpy(t.parents, first, 4 * n), plain_join(n, &t));
+        must(!memcmp(parents, t.parents, 4 * n), "plain C and SuiteSparse disagree on joining");
+        TIME(joined, (memcpy(t.parents, first, 4 * n), memcpy(t.weights, first_weights, 4 * n)), join(&t, n));
+        must(!memcmp(parents, t.parents, 4 * n), "the library and SuiteSparse disagree on joining");
+
+        TIME(plain_saved, , plain_save(n, &t));
+        TIME(saved, , save(&t, n));
+        TIME(plain_was_read, memset(t.parents, 1, 4 * n), plain_read(n, &t));
+        TIME(was_read, memset(t.parents, 1, 4 * n), read(&t, n));
+        must(!memcmp(parents, t.parents, 4 * n), "what was saved is not what is read");
+
+        TIME(plain_relabelled, , plain_relabel(net, net->order, t.ranks, t.ends));
+        TIME(relabelled, , relabel(net, &t));
+    }
+    row("grow", family, net);
+    printf("\tniqastul\t%.4f\tSuiteSparse\t%.4f\tcs_compress\t%.4f\tplain C\t%.4f\n", grow, peer, triplets, plain);
+    row("add 100", family, net);
+    printf("\tniqastul\t%.4f\tone pass\t%.4f\tSuiteSparse\t%.4f\n", added, one_pass, peer);
+    row("join", family, net);
+    printf("\tniqastul\t%.4f\tSuiteSparse\t%.4f\tplain C\t%.4f\n", joined, peer, plain_joined);
+    row("relabel", family, net);
+    printf("\tniqastul\t%.4f\tplain C\t%.4f\n", relabelled, plain_relabelled);
+    row("save", family, net);
+    printf("\tniqastul\t%.4f\tplain C\t%.4f\n", saved, plain_saved);
+    row("read", family, net);
+    printf("\tniqastul\t%.4f\tplain C\t%.4f\n", was_read, plain_was_read);
+    fflush(stdout);
+    free(first), free(first_weights), free(second), free(second_weights), free(most), free(most_weights), free(parents);
+    free_tables(&t);
+}
+
+int main(int count, char **words)
+{
+    static const size_t sizes[] = {10000, 30000, 100000, 300000, 1000000};
+    size_t most = count > 1 ? (size_t)atol(words[1]) : 1000000;
+    const char *only = count > 2 ? words[2] : "";
+    /* memory that a peer frees stays with the program, so that it pays for no fresh pages */
+    mallopt(M_MMAP_THRESHOLD, 1 << 30);
+    mallopt(M_TRIM_THRESHOLD, 1 << 30);
+    for (size_t f = 0; f < family_count; f++)
+        for (size_t s = 0; s < sizeof sizes / sizeof *sizes; s++)
+            if (sizes[s] <= most && !strncmp(families[f].name, only, strlen(only))) {
+                struct net net = make_net(&families[f], sizes[s]);
+                measure(families[f].name, &net);
+                free_net(&net);
+            }
+    return 0;
+}

@@ -1,0 +1,30 @@
+/* What the library is measured beside, on the same edge lists. */
+#ifndef PEERS_H
+#define PEERS_H
+
+#include "nets.h"
+
+/* Tables for all that is measured on one net, made once and written before they are measured. */
+struct tables {
+    uint32_t *parents, *weights, *ends, *jump, *lower; /* the library's, with lower of n + max(n, edges) entries */
+    uint32_t *parents2, *weights2;                     /* of a second net */
+    uint32_t *ranks;                                   /* as long as the list */
+    int *start, *row;                                  /* compressed columns */
+    uint8_t *bytes;                                    /* 8 to a vertex */
+};
+
+/* SuiteSparse: compressed columns of the upper triangle from the list, then cs_etree. The columns are counted and filled here, into
+ * tables that exist already; `by_triplets` goes through cs_compress instead, as its manual has it. Each answers the parents,
+ * allocated, -1 for none. */
+int *suitesparse_etree(const struct net *net, struct tables *t);
+int *suitesparse_etree_by_triplets(const struct net *net);
+
+/* The same union-find as the library's in plain C: no refusals, no weights, work tables left as they are. */
+void plain_grow(const struct net *net, struct tables *t);
+/* Joins the net in parents2 into that in parents, likewise. */
+void plain_join(size_t n, struct tables *t);
+void plain_relabel(const struct net *net, const uint32_t *order, uint32_t *out, uint32_t *inverse);
+void plain_save(size_t n, const struct tables *t);
+void plain_read(size_t n, struct tables *t);
+
+#endif

@@ -1,0 +1,123 @@
+"""Turns what bench prints into a page of tables and a plot for each call: results.py RESULTS.tsv FOLDER"""
+
+import math
+import pathlib
+import platform
+import sys
+
+# what is measured: its heading, its file, the column that ratios are taken to
+MEASURED = {
+    "grow": ("Growing a net from its edge list (start, add)", "grow", "SuiteSparse"),
+    "add 100": ("Adding 100 edges", "add", "SuiteSparse"),
+    "join": ("Joining two halves", "join", "SuiteSparse"),
+    "relabel": ("Relabelling", "relabel", "plain C"),
+    "save": ("Saving", "save", "plain C"),
+    "read": ("Reading", "read", "plain C"),
+}
+
+PEERS = """Milliseconds of processor time, the best of 15 rounds in each of which every contender runs once. `niqastul` is the whole public
+call, with its refusals, weights and cleared work tables. `SuiteSparse` builds compressed columns from the edge list into tables that
+exist already and calls CXSparse's `cs_etree`; `cs_compress` goes through its triplet form. Neither checks its input or counts
+weights. `plain C` is the bare algorithm of the library, compiled by gcc -O3. `one pass` reads the net's two tables once. SuiteSparse
+can neither add nor join: its time there is that of the whole net grown anew. All must come to the same parents.
+"""
+
+
+def rows_of(path):
+    for line in open(path):
+        what, family, vertices, edges, *pairs = line.rstrip("\n").split("\t")
+        yield what, family, int(vertices), int(edges), dict(zip(pairs[0::2], map(float, pairs[1::2])))
+
+
+def number(ms):
+    return f"{ms:,.0f}" if ms >= 100 else f"{ms:.1f}" if ms >= 10 else f"{ms:.2f}"
+
+
+def table(rows, against):
+    """A row for each family at its largest size, with the factor from a tenth of it."""
+    names = list(rows[0][4])
+    lines = ["| net | vertices | edges | " + " | ".join(names) + f" | ÷ {against} | 10 × the size |",
+             "|---|--:|--:|" + "--:|" * (len(names) + 2)]
+    for family in dict.fromkeys(row[1] for row in rows):
+        sizes = sorted((row for row in rows if row[1] == family), key=lambda row: row[2])
+        _, _, vertices, edges, times = sizes[-1]
+        tenth = [row[4] for row in sizes if abs(row[2] * 10 - vertices) < vertices / 4]
+        factor = "".join(f"{times[name] / tenth[0][name]:.0f} ({times[against] / tenth[0][against]:.0f})" for name in names[:1] if tenth)
+        cells = [family, f"{vertices:,}", f"{edges:,}", *(number(times[name]) for name in names), f"**{times[names[0]] / times[against]:.2f}**", factor]
+        lines.append("| " + " | ".join(cells) + " |")
+    return "\n".join(lines) + "\n"
+
+
+# Plots: one panel for each family, time against size, both logarithmic.
+
+COLOURS = {"niqastul": "#0072B2", "SuiteSparse": "#D55E00", "plain C": "#777777", "cs_compress": "#E69F00", "one pass": "#009E73"}
+WIDTH, HEIGHT, LEFT, BOTTOM, TOP, COLUMNS = 250, 170, 40, 34, 26, 4
+
+
+def size(vertices):
+    return f"{vertices // 1_000_000}M" if vertices >= 1_000_000 else f"{vertices // 1000}k"
+
+
+def panel(rows, names, spans):
+    """The elements of one panel, its corner at 0, 0."""
+    (x0, x1), (y0, y1) = spans
+    wide, high = WIDTH - LEFT - 14, HEIGHT - BOTTOM - TOP
+
+    def at(vertices, ms):
+        return (LEFT + wide * (math.log10(vertices) - x0) / (x1 - x0), TOP + high - high * (math.log10(ms) - y0) / (y1 - y0))
+
+    yield f'<text x="{LEFT}" y="{TOP - 9}" class="title">{rows[0][1]}</text>'
+    for power in range(math.ceil(y0), math.floor(y1) + 1):
+        x, y = at(10 ** x0, 10 ** power)
+        yield f'<line x1="{x:.1f}" y1="{y:.1f}" x2="{x + wide:.1f}" y2="{y:.1f}" class="grid"/>'
+        yield f'<text x="{x - 5:.1f}" y="{y + 4:.1f}" class="tick" text-anchor="end">{10.0 ** power:g}</text>'
+    for power in range(math.ceil(x0), math.floor(x1) + 1):
+        x, y = at(10 ** power, 10 ** y0)
+        yield f'<line x1="{x:.1f}" y1="{y:.1f}" x2="{x:.1f}" y2="{y - high:.1f}" class="grid"/>'
+        yield f'<text x="{x:.1f}" y="{y + 14:.1f}" class="tick" text-anchor="middle">{size(10 ** power)}</text>'
+    for name in reversed(names):
+        points = [at(row[2], row[4][name]) for row in rows]
+        line = " ".join(f"{x:.1f},{y:.1f}" for x, y in points)
+        yield f'<polyline points="{line}" fill="none" stroke="{COLOURS[name]}" stroke-width="{2.5 if name == "niqastul" else 1.5}"/>'
+        yield from (f'<circle cx="{x:.1f}" cy="{y:.1f}" r="2.5" fill="{COLOURS[name]}"/>' for x, y in points)
+
+
+def plot(heading, rows):
+    names = list(rows[0][4])
+    families = list(dict.fromkeys(row[1] for row in rows))
+    times = [ms for row in rows for ms in row[4].values()]
+    spans = ((math.log10(min(row[2] for row in rows)), math.log10(max(row[2] for row in rows)) + 0.001),
+             (math.log10(min(times)), math.log10(max(times))))
+    high = 64 + HEIGHT * math.ceil(len(families) / COLUMNS)
+    out = [f'<svg xmlns="http://www.w3.org/2000/svg" viewBox="0 0 {WIDTH * COLUMNS} {high}" font-family="sans-serif">',
+           "<style>.title{font-size:11px;font-weight:bold}.tick{font-size:9px;fill:#555}.grid{stroke:#ddd;stroke-width:1}</style>",
+           f'<rect width="{WIDTH * COLUMNS}" height="{high}" fill="white"/>',
+           f'<text x="14" y="24" font-size="15">{heading}: milliseconds against vertices</text>']
+    for place, name in enumerate(names):
+        x = 14 + 115 * place
+        out.append(f'<line x1="{x}" y1="42" x2="{x + 22}" y2="42" stroke="{COLOURS[name]}" stroke-width="3"/>')
+        out.append(f'<text x="{x + 27}" y="46" font-size="12">{name}</text>')
+    for place, family in enumerate(families):
+        corner = f"translate({WIDTH * (place % COLUMNS)},{60 + HEIGHT * (place // COLUMNS)})"
+        out += [f'<g transform="{corner}">', *panel([row for row in rows if row[1] == family], names, spans), "</g>"]
+    return "\n".join(out + ["</svg>", ""])
+
+
+def processor():
+    lines = [line for line in open("/proc/cpuinfo") if line.startswith("model name")]
+    return lines[0].split(":", 1)[1].strip() if lines else platform.machine()
+
+
+def main(results, folder):
+    rows, folder = list(rows_of(results)), pathlib.Path(folder)
+    page = ["# Measurements\n", PEERS, f"Machine: {processor()}, {platform.system()} {platform.release()}.\n",
+            "The last column is the factor from a net a tenth as large, the peer's in brackets.\n"]
+    for what, (heading, name, against) in MEASURED.items():
+        here = [row for row in rows if row[0] == what]
+        if here:
+            page += [f"## {heading}\n", table(here, against), f"![{heading}]({name}.svg)\n"]
+            (folder / f"{name}.svg").write_text(plot(heading, here))
+    (folder / "results.md").write_text("\n".join(page))
+
+
+main(*sys.argv[1:])

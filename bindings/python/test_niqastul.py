@@ -1,0 +1,85 @@
+"""The Python binding: document 01's nets on paper, its tables as lists and arrays, its refusals. Run by tests/run."""
+
+import unittest
+from array import array
+
+from niqastul import ABSENT, Net, Refused, relabel
+
+
+def net(vertices, edges):
+    its = Net(vertices)
+    its.add(edges)
+    return its
+
+
+class Calls(unittest.TestCase):
+    def refused(self, number, call, *arguments):
+        with self.assertRaises(Refused) as caught:
+            call(*arguments)
+        self.assertEqual(caught.exception.number, number)
+
+    def test_nets_on_paper(self):
+        for vertices, edges, parents in (
+            (1, [], [ABSENT]),
+            (3, [0, 1, 1, 2], [1, 2, ABSENT]),
+            (4, [0, 1, 0, 2, 0, 3], [1, 2, 3, ABSENT]),
+            (4, [0, 3, 1, 3, 2, 3], [3, 3, 3, ABSENT]),
+            (3, [0, 2], [2, ABSENT, ABSENT]),
+        ):
+            self.assertEqual(list(net(vertices, edges).parents), parents)
+
+    def test_weights(self):
+        self.assertEqual(list(net(3, [0, 1, 1, 0]).weights), [2, 0, 0])
+
+    def test_array_and_list(self):
+        self.assertEqual(net(3, array("I", [0, 1])).parents, net(3, [0, 1]).parents)
+        self.assertEqual(net(3, (0, 1)).parents, net(3, [0, 1]).parents)
+
+    def test_join(self):
+        first, second = net(3, [0, 2]), net(3, [0, 1])
+        first.join(second)
+        self.assertEqual((list(first.parents), list(first.weights)), ([1, 2, ABSENT], [2, 0, 0]))
+        self.assertEqual((list(second.parents), list(second.weights)), ([1, ABSENT, ABSENT], [1, 0, 0]))
+
+    def test_join_with_itself(self):
+        its = net(3, [0, 2])
+        its.join(its)
+        self.assertEqual((list(its.parents), list(its.weights)), ([2, ABSENT, ABSENT], [2, 0, 0]))
+
+    def test_save_and_read(self):
+        its, other = net(3, [0, 2]), Net(3)
+        saved = its.save()
+        self.assertEqual(saved, bytes.fromhex("0200000001000000" + "ffffffff00000000" * 2))
+        other.read(saved)
+        self.assertEqual((other.parents, other.weights), (its.parents, its.weights))
+        self.refused(6, other.read, saved[:-1])
+        self.refused(6, Net(4).read, saved)
+        self.refused(7, other.read, bytes(24))
+        self.assertEqual((other.parents, other.weights), (its.parents, its.weights))
+
+    def test_relabel(self):
+        self.assertEqual(list(relabel([3, 0, 1, 2], [3, 1, 0, 2])), [0, 2, 1, 3])
+
+    def test_refusals(self):
+        its = net(3, [0, 1])
+        self.refused(1, Net, 0)
+        self.refused(1, Net, 1_000_001)
+        self.refused(2, its.add, [0])
+        self.refused(4, its.add, [0, 3])
+        self.refused(5, its.add, [2, 2, 0, 3])
+        self.refused(21, its.join, Net(4))
+        self.refused(3, relabel, [0, 0], [0, 1])
+        self.assertEqual((list(its.parents), list(its.weights)), ([1, ABSENT, ABSENT], [1, 0, 0]))
+        its.parents[2] = 0
+        self.refused(30, its.add, [0, 1])
+        its.parents[2], its.weights[0] = ABSENT, 16_000_000
+        self.refused(20, its.add, [0, 1])
+        its.weights.append(0)
+        self.refused(2, its.add, [0, 1])
+
+    def test_reason(self):
+        self.assertEqual(str(Refused(5)), "refused 5: both ends of an edge are one vertex")
+
+
+if __name__ == "__main__":
+    unittest.main()

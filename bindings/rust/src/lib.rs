@@ -1,0 +1,145 @@
+//! Elimination forests of graphs, grown, joined and divided by a proved library.
+//!
+//! A [`Net`] owns its tables and takes edges; [`relabel`] takes an edge list from vertex numbers to ranks. Below them, [`tables`]
+//! has the library's calls over slices that the caller lends, with no allocation. Every call is safe: the library checks all that
+//! its tables hold, and what is left, that a table to be written overlaps no other, is what `&mut` says.
+//!
+//! ```
+//! let mut net = niqastul::Net::new(4)?;
+//! net.add(&[0, 1, 0, 2, 0, 3])?;
+//! assert_eq!(net.parents(), [1, 2, 3, niqastul::ABSENT]);
+//! assert_eq!(net.add(&[0, 4]), Err(niqastul::Refusal::BadVertex));
+//! # Ok::<(), niqastul::Refusal>(())
+//! ```
+
+// skipped: a pointer and its length stand on one line
+#[rustfmt::skip]
+pub mod tables;
+
+/// The parent of a vertex that has none.
+pub const ABSENT: u32 = 0xFFFF_FFFF;
+
+/// Why a call was refused; its tables are as they were. Where several apply, the one that stands first here is given.
+#[derive(Clone, Copy, Debug, PartialEq, Eq, Hash)]
+#[repr(u32)]
+pub enum Refusal {
+    /// No vertex, or more than 1,000,000.
+    BadCount = 1,
+    /// A table of the wrong length, or an edge list of odd length.
+    WrongLength = 2,
+    /// Bytes that are not a file of as many records as there are vertices.
+    BadFile = 6,
+    /// An entry of the order is out of range, or repeats.
+    BadOrder = 3,
+    /// A limit or a number of blocks out of range.
+    BadLimit = 8,
+    /// Two nets with different numbers of vertices.
+    UnlikeCounts = 21,
+    /// A net with a parent that is neither absent nor above its vertex, or with too large a total.
+    Damaged = 30,
+    /// The first faulty edge names a vertex out of range.
+    BadVertex = 4,
+    /// The first faulty edge has one vertex as both its ends.
+    Loop = 5,
+    /// A record's parent is neither absent nor above its vertex.
+    BadParent = 7,
+    /// A total above 16,000,000.
+    Full = 20,
+    /// A weight above the limit, so that no cutting can hold it.
+    TooHeavy = 22,
+    /// Edges that have other parents or weights than the net.
+    OtherEdges = 23,
+}
+
+impl Refusal {
+    #[rustfmt::skip]
+    const ALL: [Refusal; 13] = {
+        use Refusal::*;
+        [
+            BadCount, WrongLength, BadFile, BadOrder, BadLimit, UnlikeCounts, Damaged, BadVertex, Loop, BadParent, Full, TooHeavy, OtherEdges,
+        ]
+    };
+
+    /// The number by which the refusal goes in every language.
+    pub fn number(self) -> u32 {
+        self as u32
+    }
+}
+
+impl std::fmt::Display for Refusal {
+    fn fmt(&self, out: &mut std::fmt::Formatter<'_>) -> std::fmt::Result {
+        write!(out, "refused {}: {:?}", self.number(), self)
+    }
+}
+
+impl std::error::Error for Refusal {}
+
+/// An elimination forest with a weight on each vertex, and the work tables that its calls need.
+#[derive(Clone, Debug, Default)]
+pub struct Net {
+    parents: Vec<u32>,
+    weights: Vec<u32>,
+    work: tables::Work,
+}
+
+impl Net {
+    /// A net of so many vertices with no edges.
+    pub fn new(vertices: usize) -> Result<Net, Refusal> {
+        let mut net = Net { parents: vec![0; vertices], weights: vec![0; vertices], ..Net::default() };
+        tables::start(&mut net.parents, &mut net.weights)?;
+        Ok(net)
+    }
+
+    /// The parent of each vertex in the elimination forest, or [`ABSENT`].
+    pub fn parents(&self) -> &[u32] {
+        &self.parents
+    }
+
+    /// The number of edges whose lower end a vertex is.
+    pub fn weights(&self) -> &[u32] {
+        &self.weights
+    }
+
+    /// Adds edges, two ranks to an edge, as a whole or not at all.
+    pub fn add(&mut self, edges: &[u32]) -> Result<(), Refusal> {
+        self.work.resize(self.parents.len(), edges.len() / 2);
+        tables::add(&mut self.parents, &mut self.weights, edges, &mut self.work)
+    }
+
+    /// Adds all edges of another net.
+    pub fn join(&mut self, other: &Net) -> Result<(), Refusal> {
+        self.work.resize(self.parents.len(), other.parents.len());
+        tables::join(&mut self.parents, &mut self.weights, &other.parents, &other.weights, &mut self.work)
+    }
+
+    /// The net as bytes: for each vertex its parent and its weight, little-endian 32-bit numbers.
+    pub fn save(&self) -> Result<Vec<u8>, Refusal> {
+        let mut bytes = vec![0; 8 * self.parents.len()];
+        tables::save(&self.parents, &self.weights, &mut bytes)?;
+        Ok(bytes)
+    }
+
+    /// The net that was saved as these bytes.
+    pub fn read(bytes: &[u8]) -> Result<Net, Refusal> {
+        let vertices = bytes.len() / 8;
+        let mut net = Net { parents: vec![0; vertices], weights: vec![0; vertices], ..Net::default() };
+        tables::read(&mut net.parents, &mut net.weights, bytes)?;
+        Ok(net)
+    }
+}
+
+/// Nets are equal if their forests and weights are.
+impl PartialEq for Net {
+    fn eq(&self, other: &Net) -> bool {
+        self.parents == other.parents && self.weights == other.weights
+    }
+}
+
+impl Eq for Net {}
+
+/// An edge list in vertex numbers, as ranks in an order: the vertex `order[r]` has rank r.
+pub fn relabel(order: &[u32], edges: &[u32]) -> Result<Vec<u32>, Refusal> {
+    let (mut out, mut inverse) = (vec![0; edges.len()], vec![0; order.len()]);
+    tables::relabel(order, edges, &mut out, &mut inverse)?;
+    Ok(out)
+}

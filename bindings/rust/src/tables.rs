@@ -1,0 +1,143 @@
+//! The library's calls over tables that the caller lends, as include/niqastul.h describes them.
+
+use crate::Refusal;
+
+mod library {
+    extern "C" {
+        pub fn niqastul_relabel(
+            order: *const u32, order_length: usize,
+            edges: *const u32, edges_length: usize,
+            out: *mut u32, out_length: usize,
+            inverse: *mut u32, inverse_length: usize,
+        ) -> u32;
+        pub fn niqastul_start(parents: *mut u32, parents_length: usize, weights: *mut u32, weights_length: usize) -> u32;
+        pub fn niqastul_add(
+            parents: *mut u32, parents_length: usize,
+            weights: *mut u32, weights_length: usize,
+            edges: *const u32, edges_length: usize,
+            ends: *mut u32, ends_length: usize,
+            jump: *mut u32, jump_length: usize,
+            lower: *mut u32, lower_length: usize,
+        ) -> u32;
+        pub fn niqastul_join(
+            parents: *mut u32, parents_length: usize,
+            weights: *mut u32, weights_length: usize,
+            other_parents: *const u32, other_parents_length: usize,
+            other_weights: *const u32, other_weights_length: usize,
+            ends: *mut u32, ends_length: usize,
+            jump: *mut u32, jump_length: usize,
+            lower: *mut u32, lower_length: usize,
+        ) -> u32;
+        pub fn niqastul_save(
+            parents: *const u32, parents_length: usize,
+            weights: *const u32, weights_length: usize,
+            bytes: *mut u8, bytes_length: usize,
+        ) -> u32;
+        pub fn niqastul_read(
+            parents: *mut u32, parents_length: usize,
+            weights: *mut u32, weights_length: usize,
+            bytes: *const u8, bytes_length: usize,
+        ) -> u32;
+    }
+}
+
+fn answer(number: u32) -> Result<(), Refusal> {
+    if number == 0 {
+        return Ok(());
+    }
+    Err(*Refusal::ALL.iter().find(|refusal| refusal.number() == number).expect("a refusal of document 01"))
+}
+
+/// Work tables of [`add`] and [`join`].
+#[derive(Clone, Debug, Default)]
+pub struct Work {
+    pub ends: Vec<u32>,
+    pub jump: Vec<u32>,
+    pub lower: Vec<u32>,
+}
+
+impl Work {
+    /// Room for a net of so many vertices, and so many edges to add or vertices of a net to join.
+    pub fn resize(&mut self, vertices: usize, more: usize) {
+        self.ends.resize(vertices, 0);
+        self.jump.resize(vertices, 0);
+        self.lower.resize(vertices + more, 0);
+    }
+}
+
+// What every call below owes the library: each pointer leads to as many entries as the length beside it says, and no table that is
+// written overlaps another. Slices keep the first, and `&mut` the second.
+
+/// Writes an edge list in vertex numbers as ranks to `out`, and the rank of each vertex to `inverse`.
+pub fn relabel(order: &[u32], edges: &[u32], out: &mut [u32], inverse: &mut [u32]) -> Result<(), Refusal> {
+    answer(unsafe {
+        library::niqastul_relabel(
+            order.as_ptr(), order.len(),
+            edges.as_ptr(), edges.len(),
+            out.as_mut_ptr(), out.len(),
+            inverse.as_mut_ptr(), inverse.len(),
+        )
+    })
+}
+
+/// Starts a net with no edges, whatever its tables held.
+pub fn start(parents: &mut [u32], weights: &mut [u32]) -> Result<(), Refusal> {
+    answer(unsafe { library::niqastul_start(parents.as_mut_ptr(), parents.len(), weights.as_mut_ptr(), weights.len()) })
+}
+
+/// Adds edges to a net, as a whole or not at all.
+pub fn add(parents: &mut [u32], weights: &mut [u32], edges: &[u32], work: &mut Work) -> Result<(), Refusal> {
+    answer(unsafe {
+        library::niqastul_add(
+            parents.as_mut_ptr(), parents.len(),
+            weights.as_mut_ptr(), weights.len(),
+            edges.as_ptr(), edges.len(),
+            work.ends.as_mut_ptr(), work.ends.len(),
+            work.jump.as_mut_ptr(), work.jump.len(),
+            work.lower.as_mut_ptr(), work.lower.len(),
+        )
+    })
+}
+
+/// Joins a second net into a first.
+pub fn join(
+    parents: &mut [u32],
+    weights: &mut [u32],
+    other_parents: &[u32],
+    other_weights: &[u32],
+    work: &mut Work,
+) -> Result<(), Refusal> {
+    answer(unsafe {
+        library::niqastul_join(
+            parents.as_mut_ptr(), parents.len(),
+            weights.as_mut_ptr(), weights.len(),
+            other_parents.as_ptr(), other_parents.len(),
+            other_weights.as_ptr(), other_weights.len(),
+            work.ends.as_mut_ptr(), work.ends.len(),
+            work.jump.as_mut_ptr(), work.jump.len(),
+            work.lower.as_mut_ptr(), work.lower.len(),
+        )
+    })
+}
+
+/// Writes a net as bytes, 8 to a vertex.
+pub fn save(parents: &[u32], weights: &[u32], bytes: &mut [u8]) -> Result<(), Refusal> {
+    answer(unsafe {
+        library::niqastul_save(
+            parents.as_ptr(), parents.len(),
+            weights.as_ptr(), weights.len(),
+            bytes.as_mut_ptr(), bytes.len(),
+        )
+    })
+}
+
+/// Reads a net from the bytes of a save.
+pub fn read(parents: &mut [u32], weights: &mut [u32], bytes: &[u8]) -> Result<(), Refusal> {
+    answer(unsafe {
+        library::niqastul_read(
+            parents.as_mut_ptr(), parents.len(),
+            weights.as_mut_ptr(), weights.len(),
+            bytes.as_ptr(), bytes.len(),
+        )
+    })
+}

@@ -1,0 +1,41 @@
+use Rattle.exports.proofs.Answered.{ended-as}
+use borrow.Author.Needs.{needs}
+use Rattle.exports.proofs.niqastul_join.Statement.{statement}
+use Rattle.exports.proofs.niqastul_join.Tie as tie
+
+join-requires : tie.Need-join-requires
+join-requires c κs = search needs
+
+code-requires : tie.Need-code-requires
+code-requires c κs = search needs
+
+same-length : tie.Need-same-length
+same-length c = search needs
+
+same-length-2 : tie.Need-same-length-2
+same-length-2 c = search needs
+
+same-length-3 : tie.Need-same-length-3
+same-length-3 c = search needs
+
+same-length-4 : tie.Need-same-length-4
+same-length-4 c = search needs
+
+same-length-5 : tie.Need-same-length-5
+same-length-5 c = search needs
+
+returns : tie.Need-returns
+returns c = ended-as (c .code .ensures) (c .before .before .before .before .before .before .before .before .before .before .before .join .ensures)
+
+pub niqastul-join-spec : {M : Type 1} → statement M
+niqastul-join-spec =
+    tie.close
+    (tie.spec
+    join-requires
+    code-requires
+    same-length
+    same-length-2
+    same-length-3
+    same-length-4
+    same-length-5
+    returns)

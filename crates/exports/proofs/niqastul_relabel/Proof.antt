@@ -1,0 +1,23 @@
+use Rattle.exports.proofs.Answered.{ended-as}
+use borrow.Author.Needs.{needs}
+use Rattle.exports.proofs.niqastul_relabel.Statement.{statement}
+use Rattle.exports.proofs.niqastul_relabel.Tie as tie
+
+relabel-requires : tie.Need-relabel-requires
+relabel-requires c κs = search needs
+
+code-requires : tie.Need-code-requires
+code-requires c κs = search needs
+
+same-length : tie.Need-same-length
+same-length c = search needs
+
+same-length-2 : tie.Need-same-length-2
+same-length-2 c = search needs
+
+returns : tie.Need-returns
+returns c = ended-as (c .code .ensures) (c .before .before .before .before .before .relabel .ensures)
+
+pub niqastul-relabel-spec : {M : Type 1} → statement M
+niqastul-relabel-spec =
+    tie.close (tie.spec relabel-requires code-requires same-length same-length-2 returns)

@@ -1,0 +1,19 @@
+use Rattle.exports.proofs.Answered.{ended-as}
+use borrow.Author.Needs.{needs}
+use Rattle.exports.proofs.niqastul_save.Statement.{statement}
+use Rattle.exports.proofs.niqastul_save.Tie as tie
+
+save-requires : tie.Need-save-requires
+save-requires c κs = search needs
+
+code-requires : tie.Need-code-requires
+code-requires c κs = search needs
+
+same-length : tie.Need-same-length
+same-length c = search needs
+
+returns : tie.Need-returns
+returns c = ended-as (c .code .ensures) (c .before .before .before .save .ensures)
+
+pub niqastul-save-spec : {M : Type 1} → statement M
+niqastul-save-spec = tie.close (tie.spec save-requires code-requires same-length returns)

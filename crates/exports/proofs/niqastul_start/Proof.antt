@@ -1,0 +1,23 @@
+use Rattle.exports.proofs.Answered.{ended-as}
+use borrow.Author.Needs.{needs}
+use Rattle.exports.proofs.niqastul_start.Statement.{statement}
+use Rattle.exports.proofs.niqastul_start.Tie as tie
+
+start-requires : tie.Need-start-requires
+start-requires c κs = search needs
+
+code-requires : tie.Need-code-requires
+code-requires c κs = search needs
+
+same-length : tie.Need-same-length
+same-length c = search needs
+
+same-length-2 : tie.Need-same-length-2
+same-length-2 c = search needs
+
+returns : tie.Need-returns
+returns c = ended-as (c .code .ensures) (c .before .before .before .before .before .start .ensures)
+
+pub niqastul-start-spec : {M : Type 1} → statement M
+niqastul-start-spec =
+    tie.close (tie.spec start-requires code-requires same-length same-length-2 returns)

@@ -1,0 +1,94 @@
+// The interface for C and for the languages that call C (include/niqastul.h): each call of document 01 under a name of its own, with
+// its answer as a number, 0 if it was accepted. A table passes as a pointer and a length. Nothing is checked at this boundary, so no
+// function here asks anything of its caller that its types do not say: tables are readable or writable over their length, and one
+// that is written overlaps no other.
+use refusal::Answer;
+ghost use mathlib.Core.Path.{_≡_};
+ghost use Rattle.game.specs.Net.{net};
+ghost use Rattle.refusal.specs.Answer.{number};
+ghost use Rattle.refusal.specs.Outcome.{ended};
+ghost use Rattle.forest.specs.Work.{growing, workOf};
+ghost use Rattle.forest.specs.Start.{startOutcome};
+ghost use Rattle.forest.specs.Add.{addOutcome};
+ghost use Rattle.forest.specs.Join.{joinOutcome};
+ghost use Rattle.linkfile.specs.LinkFile.{saveOutcome, readOutcome};
+ghost use Rattle.relabel.specs.Relabel.{tables, relabelOutcome};
+
+fn code(answer: Answer) -> u32
+    ensures { λ r. ⌜ r ≡ number answer ⌝ }
+{
+    match answer {
+        Answer::Accepted => 0,
+        Answer::Refused(number) => number,
+    }
+}
+
+#[no_mangle]
+pub extern "C" fn niqastul_relabel(
+    order: &[u32],
+    edges: &[u32],
+    out: &mut [u32],
+    inverse: &mut [u32],
+) -> u32
+    ensures { λ r. ⌜ ended r (tables (now (out .exit)) (now (inverse .exit))) ≡ relabelOutcome (now (order .entry)) (now (edges .entry)) (tables (now (out .entry)) (now (inverse .entry))) ⌝ }
+{
+    code(relabel::relabel(order, edges, out, inverse))
+}
+
+#[no_mangle]
+pub extern "C" fn niqastul_start(parents: &mut [u32], weights: &mut [u32]) -> u32
+    ensures { λ r. ⌜ ended r (net (now (parents .exit)) (now (weights .exit))) ≡ startOutcome (net (now (parents .entry)) (now (weights .entry))) ⌝ }
+{
+    code(forest::start(parents, weights))
+}
+
+#[no_mangle]
+pub extern "C" fn niqastul_add(
+    parents: &mut [u32],
+    weights: &mut [u32],
+    edges: &[u32],
+    ends: &mut [u32],
+    jump: &mut [u32],
+    lower: &mut [u32],
+) -> u32
+    ensures { λ r. ⌜ ended r (growing (net (now (parents .exit)) (now (weights .exit))) (workOf (now (ends .exit)) (now (jump .exit)) (now (lower .exit)))) ≡ addOutcome (growing (net (now (parents .entry)) (now (weights .entry))) (workOf (now (ends .entry)) (now (jump .entry)) (now (lower .entry)))) (now (edges .entry)) ⌝ }
+{
+    code(forest::add(parents, weights, edges, ends, jump, lower))
+}
+
+#[no_mangle]
+pub extern "C" fn niqastul_join(
+    parents: &mut [u32],
+    weights: &mut [u32],
+    other_parents: &[u32],
+    other_weights: &[u32],
+    ends: &mut [u32],
+    jump: &mut [u32],
+    lower: &mut [u32],
+) -> u32
+    ensures { λ r. ⌜ ended r (growing (net (now (parents .exit)) (now (weights .exit))) (workOf (now (ends .exit)) (now (jump .exit)) (now (lower .exit)))) ≡ joinOutcome (growing (net (now (parents .entry)) (now (weights .entry))) (workOf (now (ends .entry)) (now (jump .entry)) (now (lower .entry)))) (net (now («other_parents» .entry)) (now («other_weights» .entry))) ⌝ }
+{
+    code(forest::join(
+        parents,
+        weights,
+        other_parents,
+        other_weights,
+        ends,
+        jump,
+        lower,
+    ))
+}
+
+#[no_mangle]
+pub extern "C" fn niqastul_save(parents: &[u32], weights: &[u32], bytes: &mut [u8]) -> u32
+    ensures { λ r. ⌜ ended r (now (bytes .exit)) ≡ saveOutcome (net (now (parents .entry)) (now (weights .entry))) (now (bytes .entry)) ⌝ }
+{
+    code(linkfile::save(parents, weights, bytes))
+}
+
+#[no_mangle]
+pub extern "C" fn niqastul_read(parents: &mut [u32], weights: &mut [u32], bytes: &[u8]) -> u32
+    ensures { λ r. ⌜ ended r (net (now (parents .exit)) (now (weights .exit))) ≡ readOutcome (net (now (parents .entry)) (now (weights .entry))) (now (bytes .entry)) ⌝ }
+{
+    code(linkfile::read(parents, weights, bytes))
+}

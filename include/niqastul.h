@@ -1,0 +1,134 @@
+/* Niqastul: elimination forests of graphs, grown, joined and divided. Every call below is proved to do what is written here
+ * (crates/exports); this header is what a C or C++ program sees of it.
+ *
+ * TABLES. A table is passed as a pointer and its number of entries. A graph has n vertices, 1 to NIQASTUL_MAX_VERTICES, named
+ * by their ranks 0 to n-1 in an elimination order. An edge list holds two vertices to an edge, edges may repeat, and its
+ * length is the number of its entries, twice that of its edges. A net is two tables of n entries, lent to every call:
+ *     parents[x]   the parent of x in the elimination forest, above x, or NIQASTUL_ABSENT;
+ *     weights[x]   the number of edges whose lower end is x, repeats counted.
+ * n is the length of parents, and every other table must have exactly the length that is named at the call. Work tables
+ * are room that the call needs and that the caller lends; what they hold before does not matter.
+ *
+ * ANSWERS. 0 (NIQASTUL_ACCEPTED), or the number of the refusal: of those that are listed at the call, the first that
+ * applies. A refused call leaves every table bit for bit as it was; the one exception is named at the call. What is not
+ * refused is accepted, and then every table that is not const is as the call says. Nothing is allocated or kept between
+ * calls, and there is no other state: calls on different tables may run in different threads.
+ *
+ * THE CALLER'S DUTY. The calls check every number and every length, and nothing else can be checked here:
+ *   - each pointer leads to as many entries as its length says, readable, and writable where it is not const;
+ *   - a table that is not const overlaps no other table of the same call;
+ *   - no other thread writes a table while a call reads it, or reads or writes a table that the call may write.
+ * The pointer of a table of length 0 is not followed.
+ */
+#ifndef NIQASTUL_H
+#define NIQASTUL_H
+
+#include <stddef.h>
+#include <stdint.h>
+
+#ifdef __cplusplus
+extern "C" {
+#endif
+
+#define NIQASTUL_ABSENT UINT32_C(0xFFFFFFFF) /* the parent of a vertex that has none */
+#define NIQASTUL_MAX_VERTICES 1000000
+#define NIQASTUL_MAX_TOTAL 16000000 /* of the weights of a net */
+
+/* The answers, in the order in which they are decided: where several refusals apply, the one that stands first here is given. */
+enum niqastul_answer {
+    NIQASTUL_ACCEPTED = 0,
+    NIQASTUL_BAD_COUNT = 1,       /* no vertex, or more than NIQASTUL_MAX_VERTICES */
+    NIQASTUL_WRONG_LENGTH = 2,    /* a table of the wrong length, or an edge list of odd length */
+    NIQASTUL_BAD_FILE = 6,        /* bytes that are not a file of n records */
+    NIQASTUL_BAD_ORDER = 3,       /* an entry of the order is n or more, or repeats */
+    NIQASTUL_BAD_LIMIT = 8,       /* a limit or a number of blocks out of range */
+    NIQASTUL_UNLIKE_COUNTS = 21,  /* two nets with different numbers of vertices */
+    NIQASTUL_DAMAGED = 30,        /* a net with a parent that is neither absent nor above its vertex, or with too large a total */
+    NIQASTUL_BAD_VERTEX = 4,      /* an edge names n or more */
+    NIQASTUL_LOOP = 5,            /* both ends of an edge are one vertex; 4 or 5 is that of the first faulty edge */
+    NIQASTUL_BAD_PARENT = 7,      /* a record's parent is neither absent nor above its vertex */
+    NIQASTUL_FULL = 20,           /* a total above NIQASTUL_MAX_TOTAL */
+    NIQASTUL_TOO_HEAVY = 22,      /* a weight above the limit, so that no cutting can hold it */
+    NIQASTUL_OTHER_EDGES = 23     /* edges that have other parents or weights than the net */
+};
+
+/* RELABEL an edge list from vertex numbers to ranks, by an order: the vertex order[r] has rank r.
+ *   reads   order   [n]        each of 0 to n-1 once
+ *           edges   [m]        in vertex numbers
+ *   writes  out     [m]        the same edges in ranks
+ *           inverse [n]        work; ends holding the rank of each vertex by its number
+ *   refused 1, 2, 3, 4 or 5 at the first faulty edge (in vertex numbers). There is no limit on the number of edges. */
+uint32_t niqastul_relabel(const uint32_t *order, size_t order_length,
+                          const uint32_t *edges, size_t edges_length,
+                          uint32_t *out, size_t out_length,
+                          uint32_t *inverse, size_t inverse_length);
+
+/* START a net with no edges, whatever its tables held: every parent NIQASTUL_ABSENT, every weight 0.
+ *   writes  parents [n], weights [n]
+ *   refused 1, 2 */
+uint32_t niqastul_start(uint32_t *parents, size_t parents_length,
+                        uint32_t *weights, size_t weights_length);
+
+/* ADD edges to a net, as a whole or not at all. The parents become those of the elimination game on the links of the old
+ * forest and the new edges; each edge raises the weight of its lower end by 1.
+ *   reads   edges   [m]        in ranks
+ *   writes  parents [n], weights [n]
+ *           ends [n], jump [n], lower [niqastul_add_lower(n, m)]      work; end as zeros
+ *   refused 1, 2, 30, 4 or 5 at the first faulty edge, 20 (the old total and the new edges together) */
+uint32_t niqastul_add(uint32_t *parents, size_t parents_length,
+                      uint32_t *weights, size_t weights_length,
+                      const uint32_t *edges, size_t edges_length,
+                      uint32_t *ends, size_t ends_length,
+                      uint32_t *jump, size_t jump_length,
+                      uint32_t *lower, size_t lower_length);
+
+static inline size_t niqastul_add_lower(size_t parents_length, size_t edges_length)
+{
+    return parents_length + edges_length / 2;
+}
+
+/* JOIN a second net, which stays as it is, into a first. The parents become those of the elimination game on the links of
+ * both, which are those of the edges of both together; the weights are summed.
+ *   reads   other_parents [n], other_weights [n]
+ *   writes  parents [n], weights [n]
+ *           ends [n], jump [n], lower [niqastul_join_lower(n, n)]     work; end as zeros
+ *   refused 1 (of either net), 2 (each net's weights against its own parents), 21, 30 (of either net), 20 (both totals together) */
+uint32_t niqastul_join(uint32_t *parents, size_t parents_length,
+                       uint32_t *weights, size_t weights_length,
+                       const uint32_t *other_parents, size_t other_parents_length,
+                       const uint32_t *other_weights, size_t other_weights_length,
+                       uint32_t *ends, size_t ends_length,
+                       uint32_t *jump, size_t jump_length,
+                       uint32_t *lower, size_t lower_length);
+
+static inline size_t niqastul_join_lower(size_t parents_length, size_t other_parents_length)
+{
+    return parents_length + other_parents_length;
+}
+
+/* SAVE a net as bytes: a record of 8 bytes for each vertex, its parent and its weight, little-endian 32-bit numbers.
+ *   reads   parents [n], weights [n]
+ *   writes  bytes   [niqastul_bytes(n)]
+ *   refused 1, 2, 30 */
+uint32_t niqastul_save(const uint32_t *parents, size_t parents_length,
+                       const uint32_t *weights, size_t weights_length,
+                       uint8_t *bytes, size_t bytes_length);
+
+/* READ a net from the bytes of a save, whatever its tables held.
+ *   reads   bytes   [niqastul_bytes(n)]
+ *   writes  parents [n], weights [n]
+ *   refused 1, 2, 6 (bytes of any other length), 7, 20 */
+uint32_t niqastul_read(uint32_t *parents, size_t parents_length,
+                       uint32_t *weights, size_t weights_length,
+                       const uint8_t *bytes, size_t bytes_length);
+
+static inline size_t niqastul_bytes(size_t parents_length)
+{
+    return 8 * parents_length;
+}
+
+#ifdef __cplusplus
+}
+#endif
+
+#endif

@@ -1,0 +1,207 @@
+"""Inputs for each call: accepted ones, and faults to put into them, each with the number that it must get."""
+
+import nets
+from library import PRESENT
+from oracle import calls
+from oracle.forest import ABSENT, loads_of, parents_of, ties_of
+
+
+# Accepted inputs, one maker for each call. Every table that is to be written holds garbage.
+
+def a_net(rng, n):
+    ties = nets.ties(rng, n, rng.choice((nets.dense, nets.path, nets.tree)))
+    return ties, parents_of(n, ties), loads_of(n, ties)
+
+
+def relabel(rng, n):
+    edges = nets.flat(nets.ties(rng, n, nets.dense))
+    return {"order": rng.sample(range(n), n), "edges": edges, "out": nets.garbage(rng, len(edges))}
+
+
+def start(rng, n):
+    return {"parents": nets.garbage(rng, n), "weights": nets.garbage(rng, n)}
+
+
+def add(rng, n):
+    _, parents, weights = a_net(rng, n)
+    return {"parents": parents, "weights": weights, "edges": nets.flat(nets.ties(rng, n, nets.dense))}
+
+
+def join(rng, n):
+    _, parents, weights = a_net(rng, n)
+    _, other_parents, other_weights = a_net(rng, n)
+    return {"parents": parents, "weights": weights, "other_parents": other_parents, "other_weights": other_weights}
+
+
+def save(rng, n):
+    _, parents, weights = a_net(rng, n)
+    return {"parents": parents, "weights": weights, "bytes": list(rng.randbytes(8 * n))}
+
+
+def read(rng, n):
+    _, parents, weights = a_net(rng, n)
+    return start(rng, n) | {"bytes": calls.link_file(parents, weights)}
+
+
+def divide(rng, n):
+    _, parents, weights = a_net(rng, n)
+    k = rng.randrange(1, 5)
+    tables = {name: nets.garbage(rng, n) for name in ("carried", "top", "block")}
+    limit = max(2, max(weights)) + rng.randrange(3)
+    return {"parents": parents, "weights": weights, "limit": limit, "blocks": k, "block_weights": nets.garbage(rng, k)} | tables
+
+
+def report(rng, n):
+    given = divide(rng, n)
+    ties, given["parents"], given["weights"] = a_net(rng, n)
+    given["limit"] = max(2, max(given["weights"])) + rng.randrange(3)
+    given |= {"edges": nets.flat(ties), "edge_blocks": nets.garbage(rng, len(ties))}
+    return given | {name: nets.garbage(rng, n) for name in ("reach", "block_counts", "compared_parents", "compared_weights")}
+
+
+MAKERS = {maker.__name__: maker for maker in (relabel, start, add, join, save, read, divide, report)}
+
+
+def accepted(rng, name, n):
+    """An input that the call accepts, with its work tables."""
+    given = MAKERS[name](rng, n)
+    return given | {table: nets.garbage(rng, len(end)) for table, end in PRESENT[name].work_end(given).items()}
+
+
+# Faults: (number, name, change). A change writes into the input in place, and may be put on top of others that are decided later.
+
+def put(table, place, value):
+    def change(given):
+        given[table] = list(given[table])
+        given[table][place] = value(given) if callable(value) else value
+
+    return change
+
+
+def resize(table, by):
+    def change(given):
+        if by < 0 and not given[table]:
+            raise IndexError("already empty")
+        length = len(given[table]) + by
+        given[table] = (list(given[table]) + [1] * max(by, 0))[:max(length, 0)]
+
+    return change
+
+
+def n_of(given):
+    return len(given["parents"])
+
+
+def damages(number, parents, weights):
+    """What breaks the rule of 7 or the total."""
+    for place in (0, 2, -1):
+        yield number, f"{parents}[{place}] is the next after the last", put(parents, place, lambda g: len(g[parents]))
+        yield number, f"{parents}[{place}] is far out", put(parents, place, ABSENT - 1)
+        yield number, f"{parents}[{place}] is its own rank", put(parents, place, lambda g, p=place: p % len(g[parents]))
+    yield number, f"{parents}[2] is below it", put(parents, 2, 1)
+    yield number, f"the last of {parents} is 0", put(parents, -1, 0)
+    yield number, f"{weights} sum to one too many", put(weights, 1, lambda g: calls.MAX_TOTAL + 1 - sum(g[weights]) + g[weights][1])
+    yield number, f"{weights} has one of 32 bits", put(weights, 0, 0xFFFFFFFF)
+    yield number, f"{weights} sum to 2^32", lambda g: (put(weights, 0, 0x80000000)(g), put(weights, 1, lambda h: 0x80000000 - sum(h[weights][2:]))(g))
+
+
+def full(weights, less=0):
+    """Fills a table of weights up to the largest total, less some."""
+    return put(weights, 1, lambda g: calls.MAX_TOTAL - less - sum(g[weights]) + g[weights][1])
+
+
+def edge_faults(of_n):
+    for place in (0, 2, -2):
+        yield 4, f"first end of edge {place} is n", put("edges", place, lambda g: len(g[of_n]))
+        yield 4, f"second end of edge {place} is far out", put("edges", place + 1, ABSENT)
+        yield 5, f"edge {place} is a loop", put("edges", place, lambda g, p=place: g["edges"][p + 1])
+    yield 4, "an edge is n and n", lambda g: (put("edges", 2, len(g[of_n]))(g), put("edges", 3, len(g[of_n]))(g))
+
+
+def lengths(name):
+    """Every table a little too long, too short or empty, but for those whose length is n or has a number of its own."""
+    call = PRESENT[name]
+    for table, kind in call.kinds.items():
+        if kind in "#@" and kind or (name, table) in (("read", "bytes"), (name, "parents"), (name, "order"), (name, "edges")):
+            continue
+        if table == "other_parents":
+            continue
+        for by in (-1, 1, 7, -1000):
+            yield 2, f"{table} {by:+} entries", resize(table, by)
+    if "edges" in call.kinds:
+        yield 2, "edges odd", resize("edges", 1)
+        yield 2, "edges one end short", resize("edges", -1)
+
+
+def net_resized(by, *tables):
+    """Another vertex count throughout, so that no length is wrong."""
+    def change(given):
+        for table in tables:
+            resize(table, by)(given)
+
+    return change
+
+
+def set_number(name, value):
+    def change(given):
+        given[name] = value
+
+    return change
+
+
+def faults(name):
+    of_n = "order" if name == "relabel" else "parents"
+    yield 1, "no vertex", lambda g: resize(of_n, -len(g[of_n]))(g)
+    yield from lengths(name)
+    if name == "relabel":
+        yield 3, "an order entry is n", put("order", 1, lambda g: len(g["order"]))
+        yield 3, "an order entry is far out", put("order", -1, ABSENT)
+        yield 3, "the last order entry repeats", put("order", -1, lambda g: g["order"][0])
+        yield 3, "neighbouring order entries repeat", put("order", 2, lambda g: g["order"][1])
+    if name == "read":
+        for by in (-1, 1, 4, 8, -8, -1000):
+            yield 6, f"bytes {by:+}", resize("bytes", by)
+        yield from file_faults()
+    if name in ("divide", "report"):
+        yield 8, "no limit", set_number("limit", 0)
+        yield 8, "limit too large", set_number("limit", calls.MAX_LIMIT + 1)
+        yield 8, "limit far out", set_number("limit", 0xFFFFFFFF)
+        for k in (0, calls.MAX_BLOCKS + 1):
+            yield 8, f"{k} blocks", lambda g, k=k: (set_number("blocks", k)(g), resize("block_weights", k - len(g["block_weights"]))(g))
+        yield 22, "a weight above the limit", put("weights", 1, lambda g: g["limit"] + 1)
+    if name == "report":
+        yield 23, "another weight", put("weights", -1, 1)
+        yield 23, "other edges", lambda g: g.update(edges=nets.flat((0, n_of(g) - 1) for _ in ties_of(g["edges"])))
+    if name == "join":
+        yield 1, "no vertex in the other net", lambda g: resize("other_parents", -len(g["other_parents"]))(g)
+        for by in (-1, 1):
+            change = net_resized(by, "other_parents", "other_weights", "lower")
+            yield 21, f"the other net has {by:+} vertices", lambda g, c=change: (put("other_parents", -2, ABSENT)(g), c(g), put("other_parents", -1, ABSENT)(g))
+        yield from damages(30, "other_parents", "other_weights")
+        yield 20, "both nets too full together", lambda g: (full("weights", 5)(g), put("other_weights", 0, lambda h: 6 + h["other_weights"][0])(g))
+        yield 20, "both nets full", lambda g: (full("weights")(g), full("other_weights")(g))
+    if name in ("add", "join", "save", "divide", "report"):
+        yield from damages(30, "parents", "weights")
+    if name in ("relabel", "add", "report"):
+        yield from edge_faults(of_n)
+    if name == "add":
+        yield 20, "one edge too many", lambda g: full("weights", len(g["edges"]) // 2 - 1)(g)
+        yield 20, "the net is full", full("weights")
+
+
+def file_faults():
+    def record(place, half, value):
+        def change(given):
+            at = (8 * place + 4 * half) % len(given["bytes"])
+            given["bytes"] = given["bytes"][:at] + calls.word(value(given) if callable(value) else value) + given["bytes"][at + 4:]
+
+        return change
+
+    for place in (0, 2, -1):
+        yield 7, f"record {place} names n", record(place, 0, n_of)
+        yield 7, f"record {place} names itself", record(place, 0, lambda g, p=place: p % n_of(g))
+        yield 7, f"record {place} is far out", record(place, 0, ABSENT - 1)
+    yield 7, "record 2 names 1", record(2, 0, 1)
+    yield 7, "the last record names 0", record(-1, 0, 0)
+    yield 20, "one too many", record(1, 1, lambda g: calls.MAX_TOTAL + 1 - sum(calls.words(g["bytes"])[1::2]) + calls.words(g["bytes"])[3])
+    yield 20, "32 bits", record(0, 1, 0xFFFFFFFF)

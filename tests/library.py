@@ -1,0 +1,114 @@
+"""The shared library, call by call: its tables in the order of include/niqastul.h, and what document 01's oracle expects of it.
+
+`Call.run` lends each table with guards before and behind it, and compares the answer, every entry of every table afterwards and the
+guards with what is expected: the whole of what a call may do and may not do."""
+
+import ctypes
+import pathlib
+import re
+from array import array
+
+from oracle import calls
+
+ROOT = pathlib.Path(__file__).resolve().parent.parent
+LIBRARY = ctypes.CDLL(str(ROOT / "target" / "lib" / "libniqastul.so"))
+
+GUARD = {"I": [0xA5A5A5A5] * 4, "B": [0xA5] * 4, "Q": [0x5A5A5A5A5A5A5A5A]}
+
+# what a cell holds before
+CELL = [7]
+
+
+class Call:
+    """`parameters` names them in their order: `name` is a table that is read, `name!` one that is written, `name*` a work table,
+    `name#` a number and `name@` a cell of 64 bits for a value of the answer; the table `bytes` is one of bytes. `judge` takes the
+    inputs by name and answers the number and the written tables and cells by name. `work` answers the work tables as they end."""
+
+    def __init__(self, name, parameters, judge, work=lambda given: {}):
+        self.name, self.symbol, self.judge, self.work_end = name, "niqastul_" + name, judge, work
+        self.kinds = dict(re.fullmatch(r"(\w+)(\W?)", word).groups() for word in parameters.split())
+
+    def named(self, kind):
+        return [name for name, its in self.kinds.items() if its == kind]
+
+    def expected(self, given):
+        """The number, and every table and cell that is lent to be written, by name. A work table of the wrong length is 2."""
+        number, after = self.judge(given)
+        ends = self.work_end(given)
+        if number != 1 and any(len(given[name]) != len(ends[name]) for name in ends):
+            return 2, {}
+        return number, after if number else after | ends
+
+    def run(self, checks, given, *context):
+        """Calls the library with copies of the tables and compares; answers the number and the tables afterwards."""
+        number, after = self.expected(given)
+        lent, words = {}, []
+        for name, kind in self.kinds.items():
+            if kind == "#":
+                words.append(ctypes.c_uint32(given[name]))
+                continue
+            lent[name] = guarded(self.code(name), given.get(name, CELL))
+            start = lent[name].buffer_info()[0] + lent[name].itemsize * len(GUARD[lent[name].typecode])
+            words.append(ctypes.c_void_p(start))
+            if kind != "@":
+                words.append(ctypes.c_size_t(len(given[name])))
+        checks.same(getattr(LIBRARY, self.symbol)(*words), number, self.name, given, *context)
+        for name, table in lent.items():
+            checks.same(table, guarded(table.typecode, after.get(name, given.get(name, CELL))), self.name, name, given, *context)
+        return number, {name: unguarded(table) for name, table in lent.items()}
+
+    def code(self, name):
+        return "Q" if self.kinds[name] == "@" else "B" if name == "bytes" else "I"
+
+
+def guarded(code, table):
+    return array(code, GUARD[code]) + array(code, table) + array(code, GUARD[code])
+
+
+def unguarded(table):
+    guard = len(GUARD[table.typecode])
+    return list(table[guard:-guard])
+
+
+def work_of(given, lower):
+    """The work tables of a call that grows a forest."""
+    n = len(given["parents"])
+    return {"ends": [0] * n, "jump": [0] * n, "lower": [0] * lower}
+
+
+def inverse_of(given):
+    order = given["order"]
+    rank = {vertex: place for place, vertex in enumerate(order)}
+    return {"inverse": [rank.get(vertex, 0) for vertex in range(len(order))]}
+
+
+def call(name, parameters, work=lambda given: {}):
+    """A call whose oracle has the same tables in the same order, less the work tables."""
+
+    def judge(given):
+        number, *after = oracle(*(given[name] for name, kind in its.kinds.items() if kind in ("", "#", "!")))
+        tables = its.named("!")
+        values = {name: [value] for name, value in zip(its.named("@"), after[len(tables):]) if number == 0}
+        return number, dict(zip(tables, after)) | values
+
+    oracle = getattr(calls, {"relabel": "translate"}.get(name, name))
+    its = Call(name, parameters, judge, work)
+    return its
+
+
+CALLS = [
+    call("relabel", "order edges out! inverse*", inverse_of),
+    call("start", "parents! weights!"),
+    call("add", "parents! weights! edges ends* jump* lower*",
+         lambda g: work_of(g, len(g["parents"]) + len(g["edges"]) // 2)),
+    call("join", "parents! weights! other_parents other_weights ends* jump* lower*",
+         lambda g: work_of(g, len(g["parents"]) + len(g["other_parents"]))),
+    call("save", "parents weights bytes!"),
+    call("read", "parents! weights! bytes"),
+    call("divide", "parents weights limit# blocks# carried! top! block! block_weights!"),
+    call("report", "parents weights edges limit# blocks# carried! top! block! block_weights! edge_blocks! reach! block_counts! "
+         "compared_parents! compared_weights! bound@ volume@"),
+]
+
+# the calls that the library has
+PRESENT = {its.name: its for its in CALLS if hasattr(LIBRARY, its.symbol)}

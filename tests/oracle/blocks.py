@@ -1,0 +1,65 @@
+"""Document 01, Files: one run of the program `blocks`, from the bytes of its three files to what it prints.
+
+    python3 -m oracle.blocks DIR        prints what `blocks` has to print when it is run in DIR"""
+
+import pathlib
+import sys
+
+from . import calls
+from .forest import ABSENT, loads_of, parents_of, reaches, ties_of
+
+MAX_MARKS = 1_000
+MAX_TIES = 4_000
+
+
+def refusal(marks, ties, want):
+    """For the order of refusals a run counts as one call. The numbers that are left out cannot arise: the net is made in the run."""
+    n = len(marks) // 4
+    if n == 0:
+        return 1
+    if n > MAX_MARKS or len(ties) // 8 > MAX_TIES:
+        return 2
+    if len(marks) % 4 or len(ties) % 8 or len(want) != 8:
+        return 6
+    order = calls.words(marks)
+    if calls.bad_order(order):
+        return 3
+    if calls.bad_limits(*calls.words(want)):
+        return 8
+    if calls.fault(n, calls.words(ties)):
+        return calls.fault(n, calls.words(ties))
+    limit, _ = calls.words(want)
+    _, flat = calls.translate(order, calls.words(ties), calls.words(ties))
+    if any(load > limit for load in loads_of(n, ties_of(flat))):
+        return 22
+    return 0
+
+
+def run(marks, ties, want):
+    """What is printed, of the bytes of marks.ord, ties.rec and want.rec; a file that cannot be opened counts as empty."""
+    number = refusal(marks, ties, want)
+    if number:
+        return f"refused {number}\n"
+    order, (limit, k) = calls.words(marks), calls.words(want)
+    n = len(order)
+    _, flat = calls.translate(order, calls.words(ties), calls.words(ties))
+    pairs = ties_of(flat)
+    parents, loads = parents_of(n, pairs), loads_of(n, pairs)
+    _, tops, blocks, _ = calls.division(parents, loads, limit, k)
+    block_counts = calls.block_counts_of(n, pairs, calls.tie_blocks_of(pairs, blocks))
+    reach = reaches(parents, pairs)
+    lines = []
+    for x in range(n):
+        parent = "-" if parents[x] == ABSENT else parents[x]
+        lines.append(f"{x} {order[x]} {parent} {loads[x]} {reach[x]} {tops[x]} {blocks[x]} {block_counts[x]}")
+    lines.append(f"bound {calls.bound_of(parents, pairs, tops)} volume {calls.volume_of(block_counts)}")
+    return "".join(line + "\n" for line in lines)
+
+
+def content(path):
+    return path.read_bytes() if path.is_file() else b""
+
+
+if __name__ == "__main__":
+    folder = pathlib.Path(sys.argv[1])
+    print(run(*(content(folder / name) for name in ("marks.ord", "ties.rec", "want.rec"))), end="")

@@ -1,0 +1,18 @@
+"""Runs the tests of the library; the last line is 'N passed, M failed'."""
+
+import sys
+
+import harness
+import test_oracle
+import test_interface
+import test_forest
+import test_refusals
+import test_histories
+import test_division
+import test_blocks
+import test_limits
+import test_bindings
+
+passed, failed = harness.run_all()
+print(f"{passed} passed, {failed} failed")
+sys.exit(1 if failed else 0)

@@ -1,0 +1,91 @@
+"""The program `blocks`, run on files: document 01's whole case, every refusal, its capacities, and many small nets."""
+
+import pathlib
+import random
+import subprocess
+import tempfile
+
+import nets
+from harness import test
+from library import ROOT
+from oracle import blocks
+from test_oracle import ORDER, TIES, WHOLE_CASE, file_of
+
+PROGRAM = ROOT / "target" / "bin" / "blocks"
+THERE = (ROOT / "crates" / "blocks").exists()
+
+
+def run(t, marks, ties, want, *context):
+    """Runs the program on files with these bytes, None for no file, and compares with the oracle; answers what it prints."""
+    with tempfile.TemporaryDirectory() as folder:
+        for name, content in (("marks.ord", marks), ("ties.rec", ties), ("want.rec", want)):
+            if content is not None:
+                (pathlib.Path(folder) / name).write_bytes(content)
+        printed = subprocess.run([PROGRAM], cwd=folder, capture_output=True, check=True).stdout.decode()
+    t.same(printed, blocks.run(marks or b"", ties or b"", want or b""), *context)
+    return printed
+
+
+@test(at_least=20, given=THERE)
+def whole_case_run(t):
+    marks, ties = file_of(*ORDER), file_of(*TIES)
+    t.same(run(t, marks, ties, file_of(4, 2)), WHOLE_CASE)
+    t.same(run(t, marks, ties, file_of(2, 2)), "refused 22\n")
+    t.true(run(t, marks, ties, file_of(4, 1)).endswith("volume 0\n"))
+    for missing in range(3):
+        files = [marks, ties, file_of(4, 2)]
+        files[missing] = None
+        t.same(run(t, *files).split("\n")[0], ["refused 1", "0 3 - 0 0 0 0 0", "refused 6"][missing])
+    for number, files in (
+        (1, (b"abc", ties, file_of(4, 2))),
+        (6, (marks[:-1], ties, file_of(4, 2))),
+        (6, (marks, ties[:-4], file_of(4, 2))),
+        (6, (marks, ties, file_of(4, 2, 1))),
+        (3, (file_of(0, 1, 1), ties, file_of(0, 0))),
+        (8, (marks, file_of(9, 9), file_of(0, 2))),
+        (8, (marks, file_of(9, 9), file_of(4, 1001))),
+        (4, (marks, file_of(9, 9), file_of(1, 2))),
+        (5, (marks, file_of(1, 1, 9, 9), file_of(1, 2))),
+    ):
+        t.same(run(t, *files), f"refused {number}\n")
+
+
+@test(at_least=30, given=THERE)
+def capacities(t):
+    """1,000 marks and 4,000 ties are taken, one more of either is 2, and part of a record more is 6."""
+    rng = random.Random(1)
+    marks = file_of(*rng.sample(range(1000), 1000))
+    for shape in (nets.path, nets.tall, nets.star, nets.sparse, nets.grid, nets.tree):
+        found = nets.ties(rng, 1000, shape)
+        ties = file_of(*nets.flat((found + rng.choices(found, k=4000))[:4000]))
+        for limit in (4000, 40):
+            printed = run(t, marks, ties, file_of(limit, 5), shape.__name__, limit)
+            t.true(printed == "refused 22\n" or printed.count("\n") == 1001, shape.__name__, limit)
+    want = file_of(4000, 3)
+    for more in (1, 2, 3):
+        t.same(run(t, marks + bytes(more), ties, want), "refused 6\n", more)
+    for more in (1, 4, 7):
+        t.same(run(t, marks, ties + bytes(more), want), "refused 6\n", more)
+    for many, most in ((1001, 4000), (1000, 4001), (1001, 4001), (1_000_000, 0), (1_000_001, 0)):
+        t.same(run(t, bytes(4 * many), bytes(8 * most), b""), "refused 2\n", many, most)
+    t.same(run(t, b"", bytes(8 * 4001), want), "refused 1\n")
+
+
+@test(at_least=1_500, given=THERE)
+def small_runs(t):
+    """Small nets, with now and then a byte too few, a byte changed or a file left out."""
+    for seed in range(1500):
+        rng = random.Random(seed)
+        n = rng.randrange(1, 16)
+        ties = nets.ties(rng, n, rng.choice(nets.SHAPES))
+        files = [file_of(*rng.sample(range(n), n)), file_of(*nets.flat(ties)), file_of(rng.randrange(1, 12), rng.randrange(1, 5))]
+        damage = rng.randrange(12)
+        which = rng.randrange(3)
+        if damage == 0:
+            files[which] = files[which][:rng.randrange(len(files[which]) + 1)]
+        elif damage == 1 and files[which]:
+            place = rng.randrange(len(files[which]))
+            files[which] = files[which][:place] + rng.randbytes(1) + files[which][place + 1:]
+        elif damage == 2:
+            files[which] = None
+        run(t, *files, seed)

@@ -1,0 +1,142 @@
+"""Demand 3, executed: random lists of calls over several nets and files, accepted and refused, against the book of ties."""
+
+import random
+
+import inputs
+import nets
+from harness import test
+from library import PRESENT
+from oracle import calls
+from oracle.book import Book
+from oracle.forest import ABSENT, loads_of, parents_of, ties_of
+
+NETS, FILES = range(4), range(2)
+
+
+class History:
+    """A world of nets and files that holds anything at first, the calls made on it, and the book that is kept beside."""
+
+    def __init__(self, t, rng):
+        self.t, self.rng, self.book = t, rng, Book()
+        n = rng.randrange(1, 9)
+        self.nets = {net: self.any_net(n if rng.random() < 0.8 else rng.randrange(10)) for net in NETS}
+        self.files = {file: self.any_file(n) for file in FILES}
+        self.answers = []
+        for net in NETS[:self.rng.randrange(len(NETS))]:
+            self.book.start(net, self.call("start", net)[0])
+
+    def any_net(self, n):
+        kind = self.rng.randrange(4)
+        if kind == 0:
+            return [nets.garbage(self.rng, n), nets.garbage(self.rng, n)]
+        if kind == 1:
+            return [[ABSENT] * n, [0] * max(0, n + self.rng.randrange(-1, 2))]
+        parents, weights = nets.sound_net(self.rng, n)
+        if kind == 2 and n:
+            weights[0] = calls.MAX_TOTAL - sum(weights[1:]) - self.rng.randrange(9)
+        return [parents, weights]
+
+    def any_file(self, n):
+        if self.rng.random() < 0.6:
+            return list(self.rng.randbytes(8 * n if self.rng.random() < 0.7 else self.rng.randrange(60)))
+        parents, weights = nets.sound_net(self.rng, n)
+        weights[-1] = calls.MAX_TOTAL + self.rng.choice((0, 1)) - sum(weights[:-1])
+        return calls.link_file(parents, weights)
+
+    def call(self, name, net, **others):
+        """Makes a call on a net; answers whether it was accepted, and what else it wrote."""
+        parents, weights = self.nets[net]
+        given = {"parents": parents, "weights": weights} | others
+        work = PRESENT[name].work_end(given)
+        given |= {table: nets.garbage(self.rng, len(end) + (self.rng.random() < 0.02)) for table, end in work.items()}
+        number, after = PRESENT[name].run(self.t, given)
+        self.nets[net] = [after["parents"], after["weights"]]
+        self.answers.append((name, number))
+        return number == 0, after
+
+    def edges(self, net):
+        n = len(self.nets[net][0])
+        flat = nets.flat(nets.ties(self.rng, n, self.rng.choice(nets.SHAPES))) if n > 1 else []
+        if self.rng.random() < 0.1:
+            flat = flat + self.rng.choice(([0], [n, 0], [0, 0], [ABSENT, 1]))
+        return flat
+
+    def step(self):
+        name = self.rng.choice([name for name in ("start", "add", "add", "join", "join", "save", "read", "relabel", "divide") if name in PRESENT])
+        net, other = self.rng.sample(NETS, 2)
+        file = self.rng.choice(FILES)
+        if name == "start":
+            accepted, _ = self.call(name, net)
+            self.book.start(net, accepted)
+        elif name == "add":
+            flat = self.edges(net)
+            accepted, _ = self.call(name, net, edges=flat)
+            self.book.add(net, flat, accepted)
+        elif name == "join":
+            parents, weights = self.nets[other]
+            accepted, _ = self.call(name, net, other_parents=parents, other_weights=weights)
+            self.book.join(net, other, accepted)
+        elif name == "save":
+            accepted, after = self.call(name, net, bytes=self.files[file])
+            self.files[file] = after["bytes"]
+            self.book.save(net, file, accepted)
+        elif name == "read":
+            accepted, _ = self.call(name, net, bytes=self.files[file])
+            self.book.read(net, file, accepted)
+        elif name == "divide":
+            n, k = len(self.nets[net][0]), self.rng.randrange(4)
+            tables = {table: nets.garbage(self.rng, n) for table in ("carried", "top", "block")}
+            self.call(name, net, limit=self.rng.randrange(9), blocks=k, block_weights=nets.garbage(self.rng, k), **tables)
+        else:
+            PRESENT[name].run(self.t, inputs.accepted(self.rng, name, 4))
+
+    def claim(self):
+        """What the book says of every net and file with a list."""
+        for net, ties in self.book.nets.items():
+            if ties is not None:
+                self.claim_net(self.nets[net], ties)
+        for file, ties in self.book.files.items():
+            if ties is not None:
+                n = len(self.files[file]) // 8
+                self.t.same(self.files[file], calls.link_file(parents_of(n, ties), loads_of(n, ties)))
+
+    def claim_net(self, net, ties):
+        n = len(net[0])
+        self.t.same(net, [parents_of(n, ties), loads_of(n, ties)], ties)
+        shuffled = [tie[::-1] for tie in self.rng.sample(ties, len(ties))]
+        self.t.same(net, [parents_of(n, shuffled), loads_of(n, shuffled)], shuffled)
+        k, limit = self.rng.randrange(1, 4), self.rng.randrange(1, 9)
+        if max(net[1]) <= limit:
+            _, tops, block, _ = calls.division(*net, limit, k)
+            volume = calls.volume_of(calls.block_counts_of(n, ties, calls.tie_blocks_of(ties, block)))
+            bound = calls.bound_of(net[0], ties, tops)
+            self.t.true(volume <= bound, net, ties, limit, k)
+        if "report" in PRESENT:
+            given = inputs.accepted(self.rng, "report", n) | {"parents": net[0], "weights": net[1], "limit": limit, "blocks": k}
+            given |= {"edges": nets.flat(ties), "edge_blocks": [7] * len(ties), "block_weights": [7] * k}
+            given |= {table: nets.garbage(self.rng, len(end)) for table, end in PRESENT["report"].work_end(given).items()}
+            number, _ = PRESENT["report"].run(self.t, given)
+            self.t.true(number in (0, 22), number, net, ties)
+
+
+@test(at_least=700_000)
+def histories(t):
+    seen, listed, long, files = set(), 0, 0, 0
+    for seed in range(9000):
+        history = History(t, random.Random(seed))
+        for _ in range(history.rng.randrange(1, 25)):
+            history.step()
+        history.claim()
+        seen |= set(history.answers)
+        lists = [ties for ties in history.book.nets.values() if ties is not None]
+        listed += len(lists)
+        long += sum(1 for ties in lists if len(ties) > 10)
+        files += sum(1 for ties in history.book.files.values() if ties)
+    wanted = {("start", 0), ("start", 1), ("start", 2), ("add", 0), ("add", 1), ("add", 2), ("add", 30), ("add", 4), ("add", 5), ("add", 20),
+              ("join", 0), ("join", 1), ("join", 2), ("join", 21), ("join", 30), ("join", 20)}
+    if "save" in PRESENT:
+        wanted |= {("save", 0), ("save", 1), ("save", 2), ("save", 30)}
+        wanted |= {("read", 0), ("read", 1), ("read", 2), ("read", 6), ("read", 7), ("read", 20)}
+        t.true(files > 300, files)
+    t.same(wanted - seen, set(), "answers that no history met")
+    t.true(listed > 5000 and long > 500, listed, long)

@@ -1,0 +1,64 @@
+"""The header, the library and the tests speak of the same calls; the header compiles as C and as C++; limits are document 01's."""
+
+import ctypes
+import re
+import subprocess
+import tempfile
+
+from harness import test
+from library import CALLS, LIBRARY, PRESENT, ROOT
+from oracle import calls
+from oracle.forest import ABSENT
+
+HEADER = (ROOT / "include" / "niqastul.h").read_text()
+
+
+@test(at_least=6)
+def calls_agree(t):
+    """Each function of the library is in the header with the parameters that the tests lend, and none is left untested."""
+    code = re.sub(r"/\*.*?\*/", "", HEADER, flags=re.S)
+    declared = {name: re.sub(r"\s+", " ", rest) for name, rest in re.findall(r"^uint32_t niqastul_(\w+)\((.*?)\);", code, flags=re.S | re.M)}
+    symbols = subprocess.run(["nm", "-D", "--defined-only", LIBRARY._name], check=True, capture_output=True, text=True).stdout
+    t.same(sorted(re.findall(r" T niqastul_(\w+)", symbols)), sorted(declared))
+    t.same(sorted(PRESENT), sorted(declared))
+    for name, parameters in declared.items():
+        t.same(parameters, ", ".join(declaration(PRESENT[name], table) for table in PRESENT[name].kinds), name)
+
+
+def declaration(call, name):
+    kind, type_ = call.kinds[name], "uint8_t" if name == "bytes" else "uint32_t"
+    if kind == "#":
+        return f"uint32_t {name}"
+    if kind == "@":
+        return f"uint64_t *{name}"
+    return f"{'' if kind else 'const '}{type_} *{name}, size_t {name}_length"
+
+
+@test(at_least=6)
+def constants(t):
+    """The header's numbers, as a C program prints them."""
+    source = """#include <stdio.h>
+    #include "niqastul.h"
+    int main(void) { printf("%u %u %u %zu %zu %zu", NIQASTUL_ABSENT, NIQASTUL_MAX_VERTICES, NIQASTUL_MAX_TOTAL,
+        niqastul_add_lower(5, 7), niqastul_join_lower(5, 7), niqastul_bytes(5)); }"""
+    for compiler, language in (("gcc -std=c99", "c"), ("gcc -std=c11", "c"), ("g++ -std=c++98", "c++"), ("g++ -std=c++17", "c++")):
+        with tempfile.TemporaryDirectory() as folder:
+            program = folder + "/constants"
+            command = [*compiler.split(), "-Wall", "-Wextra", "-Werror", "-I", str(ROOT / "include"), "-x", language, "-", "-o", program]
+            subprocess.run(command, input=source, text=True, check=True)
+            printed = subprocess.run([program], capture_output=True, text=True, check=True).stdout
+        t.same(printed.split(), [str(x) for x in (ABSENT, calls.MAX_MARKS, calls.MAX_TOTAL, 8, 12, 40)], compiler)
+    answers = [int(number) for number in re.findall(r"^    NIQASTUL_\w+ = (\d+)", HEADER, flags=re.M)]
+    t.same(answers, [0] + calls.ORDER, "the header lists the answers in the order of decision")
+    t.true(len(CALLS) >= len(PRESENT))
+
+
+@test(at_least=3)
+def no_pointer(t):
+    """The pointer of a table of length 0 is not followed."""
+    none, entries = (None, ctypes.c_size_t(0)), (ctypes.c_uint32 * 2)(5, 5)
+    table = (entries, ctypes.c_size_t(2))
+    t.same(LIBRARY.niqastul_start(*none, *none), 1)
+    t.same(LIBRARY.niqastul_start(*table, *none), 2)
+    t.same(LIBRARY.niqastul_relabel(*((ctypes.c_uint32 * 2)(1, 0), ctypes.c_size_t(2)), *none, *none, *table), 0)
+    t.same(list(entries), [1, 0])

@@ -1,0 +1,102 @@
+"""The oracle itself: document 01's nets on paper, its whole case, and the laws that the document states."""
+
+import random
+
+import nets
+from harness import test
+from oracle import blocks, calls
+from oracle.forest import ABSENT, links, loads_of, parents_of, reaches
+
+NONE = ABSENT
+
+
+def net_of(n, ties):
+    return parents_of(n, ties), loads_of(n, ties)
+
+
+@test(at_least=10)
+def nets_on_paper(t):
+    p5 = net_of(3, [(0, 2)])
+    t.same(parents_of(1, []), [NONE], "P1")
+    t.same(parents_of(3, [(0, 1), (1, 2)]), [1, 2, NONE], "P2")
+    t.same(parents_of(4, [(0, 1), (0, 2), (0, 3)]), [1, 2, 3, NONE], "P3")
+    t.same(parents_of(4, [(0, 3), (1, 3), (2, 3)]), [3, 3, 3, NONE], "P4")
+    t.same(p5[0], [2, NONE, NONE], "P5")
+    t.same(calls.add(*p5, [0, 1])[:2], (0, [1, 2, NONE]), "P6")
+    t.same(calls.join(*p5, *net_of(3, [(0, 1)]))[:2], (0, [1, 2, NONE]), "P7")
+    t.same(reaches([1, 2, 3, NONE], [(0, 1), (0, 2), (0, 3)]), [3, 2, 1, 0], "P8")
+    t.same(reaches([3, 3, 3, NONE], [(0, 3), (1, 3), (2, 3)]), [1, 1, 1, 0], "P9")
+    t.same(net_of(3, [(0, 1), (0, 1)]), ([1, NONE, NONE], [2, 0, 0]), "P10")
+
+
+ORDER = [3, 0, 1, 2, 4, 5]
+TIES = [3, 1, 3, 4, 0, 2, 0, 4, 1, 5, 1, 3]
+
+WHOLE_CASE = """\
+0 3 2 3 2 2 0 1
+1 0 3 2 2 5 1 1
+2 1 4 1 2 2 0 1
+3 2 4 0 1 5 1 1
+4 4 5 0 1 5 1 2
+5 5 - 0 0 5 1 1
+bound 2 volume 1
+"""
+
+
+def file_of(*numbers):
+    return bytes(byte for number in numbers for byte in calls.word(number))
+
+
+@test(at_least=10)
+def whole_case(t):
+    def run(limit, k, marks=file_of(*ORDER), ties=file_of(*TIES)):
+        return blocks.run(marks, ties, file_of(limit, k))
+
+    t.same(run(4, 2), WHOLE_CASE)
+    t.same(run(2, 2), "refused 22\n")
+    t.same(run(4, 1).split()[-1], "0", "volume with one block")
+    t.same(run(4, 2, marks=b""), "refused 1\n")
+    t.true(run(4, 2, ties=b"").endswith("\nbound 0 volume 0\n"))
+    _, flat = calls.translate(ORDER, TIES, TIES)
+    parents, loads = net_of(6, list(zip(flat[0::2], flat[1::2])))
+    t.same(calls.cutting(parents, loads, 3)[1], {0}, "the only cut with B = 3")
+    t.same(run(4, 2, marks=file_of(*ORDER)[:-1]), "refused 6\n")
+    t.same(run(4, 2, marks=file_of(0, 0)), "refused 3\n")
+    t.same(run(0, 2, ties=file_of(7, 7)), "refused 8\n", "8 before 4")
+    t.same(run(4, 2, ties=file_of(1, 1, 7, 7)), "refused 5\n", "the first faulty tie")
+    t.same(run(4, 2, ties=file_of(7, 7)), "refused 4\n", "4 before 5")
+
+
+@test(at_least=14_000)
+def laws(t):
+    """What document 01 claims besides: order of ties, joined parts, ends one above the other, block loads, volume and bound; and
+    that a reach is the number of higher neighbours in the game."""
+    for seed in range(2000):
+        rng = random.Random(seed)
+        n = rng.randrange(1, 14)
+        ties = nets.ties(rng, n, rng.choice(nets.SHAPES))
+        parents, loads = net_of(n, ties)
+        shuffled = [tie[::-1] for tie in rng.sample(ties, len(ties))]
+        t.same(net_of(n, shuffled), (parents, loads), "another order", seed)
+        half = rng.randrange(len(ties) + 1)
+        one, other = net_of(n, ties[:half]), net_of(n, ties[half:])
+        t.same(calls.join(*one, *other), (0, parents, loads), "joined parts", seed)
+        t.same(parents_of(n, links(parents)), parents, "a forest's own links", seed)
+        t.same(reaches(parents, ties), higher_neighbours(n, ties), "reach", seed)
+        limit, k = max(loads) + rng.randrange(1, 4), rng.randrange(1, 5)
+        carried, tops, block, block_loads = calls.division(parents, loads, limit, k)
+        t.same(sum(block_loads), sum(loads), "block loads", seed)
+        t.true(k * max(block_loads) <= sum(loads) + (k - 1) * limit, "even blocks", seed)
+        counts = calls.block_counts_of(n, ties, calls.tie_blocks_of(ties, block))
+        t.true(calls.volume_of(counts) <= calls.bound_of(parents, ties, tops), "volume and bound", seed)
+
+
+def higher_neighbours(n, ties):
+    neighbours = [{b for a, b in ties if a == x} | {a for a, b in ties if b == x} for x in range(n)]
+    counts = []
+    for x in range(n):
+        higher = {y for y in neighbours[x] if y > x}
+        counts.append(len(higher))
+        for y in higher:
+            neighbours[y] |= higher
+    return counts
