@@ -1,0 +1,19 @@
+-- Laws of dividing, by subject. Nothing here needs to be believed: it is all proved.
+pub mod Lists
+pub mod Best
+pub mod Trimming
+pub mod Carried
+pub mod Sums
+pub mod Groups
+pub mod Packing
+pub mod Refused
+pub mod Chains
+pub mod Scan
+pub mod Filled
+pub mod Turns
+pub mod Lightening
+pub mod Cutting
+pub mod Climbing
+pub mod Blocks
+pub mod Divided
+pub mod Laws

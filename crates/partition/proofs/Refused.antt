@@ -1,0 +1,221 @@
+-- Laws of Divide's own refusals, 8 and 22: a scan for a weight that is too heavy, and what an accepted call knows.
+-- Assumes nothing.
+use mathlib.Core.Path.{_≡_, refl, sym, ap, _∙_}
+use mathlib.Core.Logic.{by-cases}
+use mathlib.Core.Bool.{Bool, true, false, _||_, true≢false}
+use mathlib.Core.List.{List, [], _∷_}
+use Prim.Native.Nat.{ℕ, zero, suc, _+_, _≤_, _<_}
+use native.Mathlib.Numerals.{add-one}
+use native.Mathlib.Decide.{decLe}
+use native.Mathlib.Omega.{arith}
+use lib.Dec.{eqb, ltb}
+use lib.ListN.{length, getD, drop, drop-of-length-le}
+use lib.Seq.{drop-cons}
+use borrow.Author.Tests.{eqb-true, not-false, lt-ltb, le-ltb, le-leb, lt-leb, ltb-false}
+use Rattle.game.specs.Table.{sum}
+use Rattle.refusal.specs.Limits.{maxVertices}
+use Rattle.refusal.specs.Refusal.{given, first, badCount, wrongLength}
+use Rattle.refusal.specs.Outcome.{ended}
+use Rattle.refusal.proofs.Ends.{ends-refused, ends-accepted}
+use Rattle.refusal.proofs.First.{first-pass, first-stop, first-none, given-true, given-false, given-none}
+use Rattle.game.specs.Net.{Net, total}
+use Rattle.net.specs.Damage.{damagedBy, damaged}
+use Rattle.net.proofs.Scan.{undamaged}
+use Rattle.game.proofs.Sound.{true-sound}
+use Rattle.partition.specs.Work.{Divisible, Fitting}
+use Rattle.partition.specs.Divide.{outside, badLimits, tooHeavy, maxBound, maxBlocks, Tables, netOfTables, wrongTables, divideRefusal, divided, divideOutcome}
+
+module _ (most v : ℕ) where
+  pub outside-low : v < 1 → outside most v ≡ true
+  unfolding outside
+  outside-low h = rw (lt-leb 1 v h)
+
+  pub outside-high : 1 ≤ v → outside most v ≡ ltb most v
+  unfolding outside
+  outside-high h =
+      by-cases (decLe v most)
+      (λ l. rw (le-leb 1 v h, le-leb v most l, le-ltb most v l))
+      (λ (l : v ≤ most → ⊥). rw (le-leb 1 v h, lt-leb v most (omega arith), lt-ltb most v (omega arith)))
+
+  outside-not : outside most v ≡ false → (1 ≤ v) × (v ≤ most)
+  outside-not e =
+      by-cases (decLe 1 v)
+      (λ (l : 1 ≤ v). (l, ltb-false most v (sym (outside-high l) ∙ e)))
+      (λ (o : 1 ≤ v → ⊥). absurd (true≢false (sym (outside-low (omega arith)) ∙ e)))
+
+-- the scan at i: an entry that is too heavy, one that is not, or none left
+module _ (B : ℕ) (w : List ℕ) (i : ℕ) where
+  pub heavy-stop : i < length w → B < getD w i 0 → tooHeavy B (drop i w) ≡ true
+  unfolding tooHeavy
+  heavy-stop h l = rw (drop-cons w i 0, lt-ltb B (getD w i 0) l)
+
+  pub heavy-on : i < length w → getD w i 0 ≤ B → tooHeavy B (drop (i + 1) w) ≡ tooHeavy B (drop i w)
+  unfolding tooHeavy
+  heavy-on h l = rw (add-one, drop-cons w i 0, le-ltb B (getD w i 0) l)
+
+  pub heavy-end : length w ≤ i → tooHeavy B (drop i w) ≡ false
+  unfolding tooHeavy
+  heavy-end h = rw (drop-of-length-le w h)
+
+-- neither of two tests joined by "or" passes
+or-false : (a b : Bool) → (a || b) ≡ false → (a ≡ false) × (b ≡ false)
+or-false true b e = absurd (true≢false e)
+or-false false b e = (refl, e)
+
+pub limits-not : (B k : ℕ) → badLimits B k ≡ false → (1 ≤ B) × (B ≤ maxBound) × (1 ≤ k) × (k ≤ maxBlocks)
+unfolding badLimits
+limits-not B k e =
+    let t = or-false (outside maxBound B) (outside maxBlocks k) e in
+    let b = outside-not maxBound B (t .0) in
+    let c = outside-not maxBlocks k (t .1) in
+    (b .0, b .1, c .0, c .1)
+
+pub count-not : (n : ℕ) → badCount n ≡ false → n ≤ maxVertices
+unfolding badCount
+count-not n e = ltb-false maxVertices n (or-false (eqb n 0) (ltb maxVertices n) e .1)
+
+-- right lengths
+pub record Sized (net : Net) (k : ℕ) (was : Tables) : Type 0 where
+  pub weights : length (net .weights) ≡ length (net .parents)
+  pub carried : length (was .carried) ≡ length (net .parents)
+  pub top : length (was .top) ≡ length (net .parents)
+  pub block : length (was .block) ≡ length (net .parents)
+  pub loads : length (was .blockLoads) ≡ k
+
+right : (a n : ℕ) → wrongLength a n ≡ false → a ≡ n
+unfolding wrongLength
+right a n e = eqb-true a n (not-false (eqb a n) e)
+
+pub tables-not : (net : Net) (k : ℕ) (was : Tables) → wrongTables net k was ≡ false → Sized net k was
+unfolding wrongTables
+tables-not net k was e =
+    let a = or-false (w || c || t || b) (wrongLength (length (was .blockLoads)) k) e in
+    let f = or-false (w || c || t) b (a .0) in
+    let g = or-false (w || c) t (f .0) in
+    let h = or-false w c (g .0) in
+    record {
+      weights = right (length (net .weights)) n (h .0);
+      carried = right (length (was .carried)) n (h .1);
+      top = right (length (was .top)) n (g .1);
+      block = right (length (was .block)) n (f .1);
+      loads = right (length (was .blockLoads)) k (a .1);
+    }
+  where
+    n : ℕ
+    n = length (net .parents)
+
+    w : Bool
+    w = wrongLength (length (net .weights)) n
+
+    c : Bool
+    c = wrongLength (length (was .carried)) n
+
+    t : Bool
+    t = wrongLength (length (was .top)) n
+
+    b : Bool
+    b = wrongLength (length (was .block)) n
+
+-- a net's damage, by its summary
+pub damaged-as : (p w : List ℕ) {s : ℕ} {r : Bool} → s ≡ sum w → r ≡ damagedBy p s → damaged (netOfTables p w) ≡ r
+unfolding damaged
+damaged-as p w e f = ap (damagedBy p) (sym e) ∙ sym f
+
+-- not too heavy: no weight is above the limit
+pub heavy-not : (B : ℕ) (w : List ℕ) → tooHeavy B w ≡ false → (x : ℕ) → getD w x 0 ≤ B
+unfolding tooHeavy
+heavy-not B [] e x = omega arith
+heavy-not B (v ∷ w) e zero = ltb-false B v (or-false (ltb B v) (tooHeavy B w) e .0)
+heavy-not B (v ∷ w) e (suc x) = heavy-not B w (or-false (ltb B v) (tooHeavy B w) e .1) x
+
+-- a test of a chain that does not apply, and one that does
+pass : {t : Bool} (k : ℕ) (ks : List ℕ) → t ≡ false → first (given t k ∷ ks) ≡ first ks
+pass {t} k ks e = first-pass (given t k) ks (given-false t k e)
+
+stop : {t : Bool} (k : ℕ) (ks : List ℕ) → t ≡ true → first (given t (suc k) ∷ ks) ≡ suc k
+stop {t} k ks e = ap (λ (v : ℕ). first (v ∷ ks)) (given-true t (suc k) e) ∙ first-stop (suc k) ks (λ z. omega arith)
+
+-- Divide's refusal, test by test: each is reached if no earlier one applied
+module _ (net : Net) (B k : ℕ) (was : Tables) where
+  abbrev heavy : List ℕ
+  heavy = given (tooHeavy B (net .weights)) 22 ∷ []
+
+  abbrev damage : List ℕ
+  damage = given (damaged net) 30 ∷ heavy
+
+  abbrev limits : List ℕ
+  limits = given (badLimits B k) 8 ∷ damage
+
+  abbrev sizes : List ℕ
+  sizes = given (wrongTables net k was) 2 ∷ limits
+
+  pub refused-count : badCount (length (net .parents)) ≡ true → divideRefusal net B k was ≡ 1
+  unfolding divideRefusal
+  refused-count e = stop 0 sizes e
+
+  module _ (e₁ : badCount (length (net .parents)) ≡ false) where
+    pub refused-tables : wrongTables net k was ≡ true → divideRefusal net B k was ≡ 2
+    unfolding divideRefusal
+    refused-tables e = pass 1 sizes e₁ ∙ stop 1 limits e
+
+    module _ (e₂ : wrongTables net k was ≡ false) where
+      pub refused-limits : badLimits B k ≡ true → divideRefusal net B k was ≡ 8
+      unfolding divideRefusal
+      refused-limits e = pass 1 sizes e₁ ∙ pass 2 limits e₂ ∙ stop 7 damage e
+
+      module _ (e₃ : badLimits B k ≡ false) where
+        pub refused-damaged : damaged net ≡ true → divideRefusal net B k was ≡ 30
+        unfolding divideRefusal
+        refused-damaged e = pass 1 sizes e₁ ∙ pass 2 limits e₂ ∙ pass 8 damage e₃ ∙ stop 29 heavy e
+
+        module _ (e₄ : damaged net ≡ false) where
+          pub refused-heavy : tooHeavy B (net .weights) ≡ true → divideRefusal net B k was ≡ 22
+          unfolding divideRefusal
+          refused-heavy e = pass 1 sizes e₁ ∙ pass 2 limits e₂ ∙ pass 8 damage e₃ ∙ pass 30 heavy e₄ ∙ stop 21 [] e
+
+          pub refused-not : tooHeavy B (net .weights) ≡ false → divideRefusal net B k was ≡ 0
+          unfolding divideRefusal
+          refused-not e = pass 1 sizes e₁ ∙ pass 2 limits e₂ ∙ pass 8 damage e₃ ∙ pass 30 heavy e₄ ∙ pass 22 [] e
+
+-- what an accepted call knows
+pub record Accepted (p w : List ℕ) (B k : ℕ) (was : Tables) : Type 0 where
+  pub net : Divisible p w B
+  pub tables : Fitting (length p) was
+  pub blocks : length (was .blockLoads) ≡ k
+
+pub accepted : (p w : List ℕ) (B k : ℕ) (was : Tables) → divideRefusal (netOfTables p w) B k was ≡ 0 → Accepted p w B k was
+unfolding divideRefusal
+accepted p w B k was e =
+    let a = first-none (given (badCount (length p)) 1) (sizes (netOfTables p w) B k was) e in
+    let b = first-none (given (wrongTables (netOfTables p w) k was) 2) (limits (netOfTables p w) B k was) (a .1) in
+    let c = first-none (given (badLimits B k) 8) (damage (netOfTables p w) B k was) (b .1) in
+    let d = first-none (given (damaged (netOfTables p w)) 30) (heavy (netOfTables p w) B k was) (c .1) in
+    let f = first-none (given (tooHeavy B w) 22) [] (d .1) in
+    let lengths = tables-not (netOfTables p w) k was (given-none (wrongTables (netOfTables p w) k was) 1 (b .0)) in
+    let limit = limits-not B k (given-none (badLimits B k) 7 (c .0)) in
+    let sane = undamaged p (sum w) (given-none (damaged (netOfTables p w)) 29 (d .0)) in
+    record {
+      net =
+          record {
+            known = true-sound (sane .0);
+            few = count-not (length p) (given-none (badCount (length p)) 0 (a .0));
+            sized = lengths .weights;
+            small = sane .1;
+            some = limit .0;
+            light = λ x l. heavy-not B w (given-none (tooHeavy B w) 21 (f .0)) x;
+          };
+      tables =
+          record { carried = lengths .carried; top = lengths .top; block = lengths .block; some = omega (arith, lengths .loads, limit .2); few = omega (arith, lengths .loads, limit .3) };
+      blocks = lengths .loads;
+    }
+
+-- how Divide ends
+module _ (net : Net) (B k : ℕ) (was : Tables) {m : ℕ} (e : m ≡ divideRefusal net B k was) where
+  pub divide-refused : (m ≡ 0 → ⊥) → ended m was ≡ divideOutcome net B k was
+  unfolding divideOutcome
+  divide-refused d = ends-refused (divideRefusal net B k was) was (divided net B k) e (λ z. d (e ∙ z)) refl
+
+  pub divide-accepted : m ≡ 0 → {j : ℕ} {new : Tables} → j ≡ k → new ≡ divided net B j → ended 0 new ≡ divideOutcome net B k was
+  unfolding divideOutcome
+  divide-accepted z f g =
+      ends-accepted (divideRefusal net B k was) was (divided net B k) (sym z ∙ e) (sym e ∙ z) (g ∙ ap (divided net B) f)

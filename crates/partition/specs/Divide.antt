@@ -1,0 +1,93 @@
+-- The call Divide: what it refuses and what it writes.
+--
+-- Document 01: "Divide, with limit B and block count k .. It writes carried load, top and block of each rank, and the load of each
+-- of the k blocks." Of its refusals 1, 2, 8, 30 and 22 can be given, in this order. A refused call leaves every table as it was.
+-- Assumes nothing.
+use mathlib.Core.Bool.{Bool, not, _||_, _&&_}
+use mathlib.Core.List.{List, [], _∷_}
+use Prim.Native.Nat.{ℕ}
+use lib.Dec.{eqb, ltb, leb}
+use lib.ListN.{length, getD}
+use Rattle.game.specs.Table.{tabulate, some-entry}
+use Rattle.game.specs.Net.{Net}
+use Rattle.refusal.specs.Refusal.{given, first, badCount, wrongLength}
+use Rattle.refusal.specs.Outcome.{Outcome, decided}
+use Rattle.net.specs.Damage.{damaged}
+use Rattle.partition.specs.Cut.{carried, cutBy, top}
+use Rattle.partition.specs.Pack.{loadsBelow, blockOf}
+
+-- "B not 1 to 16,000,000"
+abbrev pub maxBound : ℕ
+maxBound = 16_000_000
+
+-- "k not 1 to 1,000"
+abbrev pub maxBlocks : ℕ
+maxBlocks = 1_000
+
+-- "not 1 to" a largest
+unfoldable pub outside : ℕ → ℕ → Bool
+outside most v = not (leb 1 v && leb v most)
+
+-- 8, of a limit B and a block count k
+unfoldable pub badLimits : ℕ → ℕ → Bool
+unfolding outside
+badLimits B k = outside maxBound B || outside maxBlocks k
+
+-- 22: "a mark's load is above B, so that no cutting can hold B"
+unfoldable pub tooHeavy : ℕ → List ℕ → Bool
+unfolding some-entry
+tooHeavy B w = some-entry (λ (v : ℕ). ltb B v) w
+
+-- a net by its two tables, as it is lent
+abbrev pub netOfTables : List ℕ → List ℕ → Net
+netOfTables p w = record { parents = p; weights = w }
+
+-- the tables that Divide writes
+pub record Tables : Type 0 where
+  pub carried : List ℕ
+  pub top : List ℕ
+  pub block : List ℕ
+  pub blockLoads : List ℕ
+
+abbrev pub tables : List ℕ → List ℕ → List ℕ → List ℕ → Tables
+tables c t b l = record { carried = c; top = t; block = b; blockLoads = l }
+
+-- "It writes carried load, top and block of each rank, and the load of each of the k blocks"; a rank goes into the block of its top
+unfoldable pub divided : Net → ℕ → ℕ → Tables
+unfolding carried cutBy top tabulate blockOf loadsBelow
+divided net B k =
+    let p : List ℕ = net .parents in
+    let w : List ℕ = net .weights in
+    let carries : List ℕ = carried p w B in
+    let c : ℕ → ℕ = λ (x : ℕ). getD carries x 0 in
+    let tops : List ℕ = tabulate (length p) (top p (cutBy p w B c)) in
+    let topOf : ℕ → ℕ = λ (x : ℕ). getD tops x 0 in
+    let isTop : ℕ → Bool = λ (x : ℕ). eqb (topOf x) x in
+    tables carries tops (tabulate (length p) (λ (x : ℕ). blockOf isTop c k (topOf x))) (loadsBelow isTop c k (length p))
+
+-- 2: "a table of the wrong length for the call": the loads are a table of the k that is given, the others of n
+unfoldable pub wrongTables : Net → ℕ → Tables → Bool
+unfolding wrongLength
+wrongTables net k was =
+    let n : ℕ = length (net .parents) in
+    wrongLength (length (net .weights)) n
+    || wrongLength (length (was .carried)) n
+    || wrongLength (length (was .top)) n
+    || wrongLength (length (was .block)) n
+    || wrongLength (length (was .blockLoads)) k
+
+-- the number for which Divide is refused, or 0; `was` are the tables as they were lent
+unfoldable pub divideRefusal : Net → ℕ → ℕ → Tables → ℕ
+unfolding first given badCount wrongTables badLimits damaged tooHeavy
+divideRefusal net B k was =
+    first
+    (given (badCount (length (net .parents))) 1
+    ∷ given (wrongTables net k was) 2
+    ∷ given (badLimits B k) 8
+    ∷ given (damaged net) 30
+    ∷ given (tooHeavy B (net .weights)) 22
+    ∷ [])
+
+unfoldable pub divideOutcome : Net → ℕ → ℕ → Tables → Outcome Tables
+unfolding decided divideRefusal divided
+divideOutcome net B k was = decided (divideRefusal net B k was) was (divided net B k)

@@ -1,0 +1,46 @@
+-- Document 01, "Whole case": how its forest is divided, computed from the definitions as one table.
+-- Assumes nothing.
+use mathlib.Core.Path.{_≡_, refl}
+use mathlib.Core.List.{List, [], _∷_}
+use Prim.Native.Nat.{ℕ}
+use lib.ListN.{replicate}
+use Rattle.game.specs.Game.{absent}
+use Rattle.game.specs.Net.{Net}
+use Rattle.game.specs.Tree.{sound}
+use Rattle.net.specs.Damage.{damagedBy}
+use Rattle.refusal.specs.Refusal.{unless}
+use Rattle.refusal.specs.Outcome.{Outcome, ended}
+use Rattle.partition.specs.Divide.{Tables, tables, divideOutcome}
+
+-- the net of the whole case, by rank
+net : Net
+net = record { parents = 2 ∷ 3 ∷ 4 ∷ 4 ∷ 5 ∷ absent ∷ []; weights = 3 ∷ 2 ∷ 1 ∷ 0 ∷ 0 ∷ 0 ∷ [] }
+
+-- tables of the right lengths, lent with sevens in them
+lent : ℕ → Tables
+lent k = tables (replicate 6 7) (replicate 6 7) (replicate 6 7) (replicate k 7)
+
+-- B = 4 and k = 2; B = 3; k = 1; B = 2, which is refused; a block count of 0, and a table too long for it
+pub computed : List (Outcome Tables)
+computed =
+    divideOutcome net 4 2 (lent 2)
+    ∷ divideOutcome net 3 2 (lent 2)
+    ∷ divideOutcome net 4 1 (lent 1)
+    ∷ divideOutcome net 2 2 (lent 2)
+    ∷ divideOutcome net 4 0 (lent 0)
+    ∷ divideOutcome net 4 0 (lent 1)
+    ∷ []
+
+pub printed : List (Outcome Tables)
+printed =
+    ended 0 (tables (3 ∷ 2 ∷ 4 ∷ 2 ∷ 2 ∷ 2 ∷ []) (2 ∷ 5 ∷ 2 ∷ 5 ∷ 5 ∷ 5 ∷ []) (0 ∷ 1 ∷ 0 ∷ 1 ∷ 1 ∷ 1 ∷ []) (4 ∷ 2 ∷ []))
+    ∷ ended 0 (tables (3 ∷ 2 ∷ 1 ∷ 2 ∷ 3 ∷ 3 ∷ []) (0 ∷ 5 ∷ 5 ∷ 5 ∷ 5 ∷ 5 ∷ []) (0 ∷ 1 ∷ 1 ∷ 1 ∷ 1 ∷ 1 ∷ []) (3 ∷ 3 ∷ []))
+    ∷ ended 0 (tables (3 ∷ 2 ∷ 4 ∷ 2 ∷ 2 ∷ 2 ∷ []) (2 ∷ 5 ∷ 2 ∷ 5 ∷ 5 ∷ 5 ∷ []) (replicate 6 0) (6 ∷ []))
+    ∷ ended 22 (lent 2)
+    ∷ ended 8 (lent 0)
+    ∷ ended 2 (lent 1)
+    ∷ []
+
+pub paper : computed ≡ printed
+unfolding computed printed net lent divideOutcome damagedBy unless sound
+paper = refl

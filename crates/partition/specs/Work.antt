@@ -1,0 +1,150 @@
+-- What the steps of dividing ask of each other and hand on. The promise of the call itself speaks of none of it.
+-- Assumes nothing.
+use mathlib.Core.Path.{_≡_}
+use mathlib.Core.Logic.{_≢_, _⊎_}
+use mathlib.Core.Bool.{Bool, true, not, _&&_, cond}
+use mathlib.Core.List.{List, [], _∷_, map, List·Memᴰ}
+use Prim.Native.Nat.{ℕ, suc, _+_, _≤_, _<_}
+use lib.Dec.{eqb, ltb}
+use lib.ListN.{length, getD}
+use Rattle.game.specs.Table.{tabulate, sum}
+use Rattle.game.specs.Game.{absent}
+use Rattle.game.specs.Tree.{sound}
+use Rattle.refusal.specs.Limits.{maxVertices, maxTotal}
+use Rattle.partition.specs.Cut.{childrenBelow, carries, trim, carried, cut, top}
+use Rattle.partition.specs.Pack.{loadsBelow, blockOf}
+use Rattle.partition.specs.Divide.{maxBlocks, Tables}
+
+-- a net that Divide accepts with limit B
+pub record Divisible (p w : List ℕ) (B : ℕ) : Type 0 where
+  pub known : sound p ≡ true
+  pub few : length p ≤ maxVertices
+  pub sized : length w ≡ length p
+  pub small : sum w ≤ maxTotal
+  pub some : 1 ≤ B
+  pub light : (x : ℕ) → x < length p → getD w x 0 ≤ B
+
+-- the linked list that starts at h and goes on by `next` holds ys
+pub data Chain (next : List ℕ) : ℕ → List ℕ → Type 0 where
+  end : {h : ℕ} → h ≡ absent → Chain next h []
+  node : {h y : ℕ} {ys : List ℕ} → h ≡ y → Chain next (getD next y 0) ys → Chain next h (y ∷ ys)
+
+-- by rising rank, from a on
+pub data Rising : ℕ → List ℕ → Type 0 where
+  done : {a : ℕ} → Rising a []
+  more : {a y : ℕ} {ys : List ℕ} → a ≤ y → Rising (suc y) ys → Rising a (y ∷ ys)
+
+-- by falling rank, below a
+pub data Falling : ℕ → List ℕ → Type 0 where
+  none : {a : ℕ} → Falling a []
+  less : {a y : ℕ} {ys : List ℕ} → y < a → Falling y ys → Falling a (y ∷ ys)
+
+-- what x hangs on: itself if it has no parent or is cut, else its parent
+unfoldable pub holder : List ℕ → (ℕ → Bool) → ℕ → ℕ
+holder p cuts x = let q : ℕ = getD p x absent in cond (ltb q (length p) && not (cuts x)) q x
+
+-- every vertex hangs on itself or on a higher one
+pub record Hanging (link : List ℕ) : Type 0 where
+  pub up : (x : ℕ) → x < length link → (x ≤ getD link x 0) × (getD link x 0 < length link)
+
+-- each entry has gone up to the one that hangs on itself
+pub record Climbed (link tops : List ℕ) : Type 0 where
+  pub stays : (x : ℕ) → x < length link → getD link x 0 ≡ x → getD tops x 0 ≡ x
+  pub climbs : (x : ℕ) → x < length link → getD link x 0 ≢ x → getD tops x 0 ≡ getD tops (getD link x 0) 0
+
+-- the lower ranks that hang on x
+abbrev pub hanging : List ℕ → ℕ → List ℕ
+hanging link x = childrenBelow link x x
+
+-- What trimming x is given: a linked list by rising rank with all of its children that carry more than `floor`, and what those that
+-- hang on x carry together. The weight of x alone fits, and so does what any lower rank carries.
+pub record Family (x weight uncut B floor first : ℕ) (next carried link : List ℕ) : Type 0 where
+  pub inside : x < length link
+  pub few : length link ≤ maxVertices
+  pub tails : length next ≡ length link
+  pub told : length carried ≡ length link
+  pub list : List ℕ
+  pub chain : Chain next first list
+  pub rising : Rising 0 list
+  pub lower : (z : ℕ) → List·Memᴰ z list → z < x
+  pub all : (z : ℕ) → List·Memᴰ z (hanging link x) → floor < getD carried z 0 → List·Memᴰ z list
+  pub together : uncut ≡ sum (map (λ (y : ℕ). getD carried y 0) (hanging link x))
+  pub small : weight + uncut ≤ maxTotal
+  pub alone : weight ≤ B
+  pub each : (y : ℕ) → y < x → getD carried y 0 ≤ B
+
+-- What trimming x leaves: some children that carry more than `floor` hang on themselves, those that had to be cut first. What the
+-- others carry together is r; it fits, or there is no heavier child left.
+pub record Trimmed (x weight B floor : ℕ) (carried was link : List ℕ) (r : ℕ) : Type 0 where
+  pub same : trim (length (hanging link x)) (λ (y : ℕ). getD carried y 0) B weight (hanging link x)
+      ≡ trim (length (hanging was x)) (λ (y : ℕ). getD carried y 0) B weight (hanging was x)
+  pub together : r ≡ sum (map (λ (y : ℕ). getD carried y 0) (hanging link x))
+  pub moved : (y : ℕ) → (getD link y 0 ≡ getD was y 0) ⊎ (List·Memᴰ y (hanging was x) × (floor < getD carried y 0) × (getD link y 0 ≡ y))
+  pub ended : (weight + r ≤ B) ⊎ ((z : ℕ) → List·Memᴰ z (hanging link x) → getD carried z 0 ≤ floor)
+
+-- What lightening x is given: its children, which all hang on it yet, as a linked list by falling rank.
+pub record Brood (x weight uncut B first : ℕ) (next carried link : List ℕ) : Type 0 where
+  pub inside : x < length link
+  pub few : length link ≤ maxVertices
+  pub tails : length next ≡ length link
+  pub told : length carried ≡ length link
+  pub list : List ℕ
+  pub chain : Chain next first list
+  pub falling : Falling x list
+  pub all : (z : ℕ) → List·Memᴰ z (hanging link x) → List·Memᴰ z list
+  pub only : (z : ℕ) → List·Memᴰ z list → List·Memᴰ z (hanging link x)
+  pub together : uncut ≡ sum (map (λ (y : ℕ). getD carried y 0) (hanging link x))
+  pub small : weight + uncut ≤ maxTotal
+  pub alone : weight ≤ B
+  pub each : (y : ℕ) → y < x → getD carried y 0 ≤ B
+
+-- What lightening x leaves: those hang on it that it keeps, the others of its children on themselves; r is what it carries. The lists
+-- of other vertices are as they were.
+pub record Lightened (x weight B : ℕ) (carried was link nextWas next : List ℕ) (r : ℕ) : Type 0 where
+  pub kept : hanging link x ≡ trim (length (hanging was x)) (λ (y : ℕ). getD carried y 0) B weight (hanging was x)
+  pub carries : r ≡ carries (λ (y : ℕ). getD carried y 0) weight (hanging link x)
+  pub moved : (y : ℕ) → (getD link y 0 ≡ getD was y 0) ⊎ (List·Memᴰ y (hanging was x) × (getD link y 0 ≡ y))
+  pub others : (y : ℕ) → (List·Memᴰ y (hanging was x) → ⊥) → getD next y 0 ≡ getD nextWas y 0
+
+-- what cutting leaves: what each rank carries, and what it hangs on
+pub record Cuts (p w : List ℕ) (B : ℕ) (carriedNow link : List ℕ) : Type 0 where
+  pub table : carriedNow ≡ carried p w B
+  pub held : (x : ℕ) → x < length p → getD link x 0 ≡ holder p (cut p w B) x
+
+-- What packing is given: tables of one length, at least one block, and groups that come to no more than a net's total.
+pub record Packable (tops carriedNow block loads : List ℕ) : Type 0 where
+  pub told : length carriedNow ≡ length tops
+  pub sized : length block ≡ length tops
+  pub some : 0 < length loads
+  pub few : length loads ≤ maxBlocks
+  pub small : sum (map (λ (x : ℕ). cond (eqb (getD tops x 0) x) (getD carriedNow x 0) 0) (tabulate (length tops) (λ (x : ℕ). x))) ≤ maxTotal
+
+-- what it leaves: the block of each top, and the loads
+pub record Packed (tops carriedNow block loads : List ℕ) : Type 0 where
+  pub table : loads ≡ loadsBelow (λ (x : ℕ). eqb (getD tops x 0) x) (λ (x : ℕ). getD carriedNow x 0) (length loads) (length tops)
+  pub each : (x : ℕ) → x < length tops → getD tops x 0 ≡ x
+      → getD block x 0 ≡ blockOf (λ (x : ℕ). eqb (getD tops x 0) x) (λ (x : ℕ). getD carriedNow x 0) (length loads) x
+
+-- a table of tops: each is of the table, and its own top
+pub record Topped (tops : List ℕ) : Type 0 where
+  pub inside : (x : ℕ) → x < length tops → getD tops x 0 < length tops
+  pub own : (x : ℕ) → x < length tops → getD tops (getD tops x 0) 0 ≡ getD tops x 0
+
+-- what each rank carries, and the top of its group
+pub record Grouped (p w : List ℕ) (B : ℕ) (carriedNow tops : List ℕ) : Type 0 where
+  pub weights : carriedNow ≡ carried p w B
+  pub table : tops ≡ tabulate (length p) (top p (cut p w B))
+
+-- the block of each rank, and the loads
+pub record Assigned (tops carriedNow block loads : List ℕ) : Type 0 where
+  pub table : loads ≡ loadsBelow (λ (x : ℕ). eqb (getD tops x 0) x) (λ (x : ℕ). getD carriedNow x 0) (length loads) (length tops)
+  pub blocks : block
+      ≡ tabulate (length tops) (λ (y : ℕ). blockOf (λ (x : ℕ). eqb (getD tops x 0) x) (λ (x : ℕ). getD carriedNow x 0) (length loads) (getD tops y 0))
+
+-- tables that Divide can write for n vertices, with at least one block
+pub record Fitting (n : ℕ) (t : Tables) : Type 0 where
+  pub carried : length (t .carried) ≡ n
+  pub top : length (t .top) ≡ n
+  pub block : length (t .block) ≡ n
+  pub some : 1 ≤ length (t .blockLoads)
+  pub few : length (t .blockLoads) ≤ maxBlocks

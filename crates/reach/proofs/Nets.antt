@@ -1,0 +1,125 @@
+-- What a net that is the net of its edges gives to each stage of the count.
+-- Assumes nothing.
+use mathlib.Core.Path.{_≡_, refl, sym, ap, _∙_}
+use mathlib.Core.Logic.{by-cases}
+use mathlib.Core.List.{List, [], _∷_, List·Memᴰ, List·Memᴰ·not-nil, List·Memᴰ·cases-cons}
+use mathlib.Core.Logic.{⊎-elim}
+use Prim.Native.Nat.{ℕ, _≤_, _<_, min, max}
+use native.Mathlib.Nat.{min-eq-left, min-eq-right, max-eq-left, max-eq-right}
+use native.Mathlib.Decide.{decLe}
+use native.Mathlib.Omega.{arith}
+use lib.ListN.{length, getD, replicate, length-replicate, getD-replicate}
+use Rattle.game.specs.Edge.{Edge, _─_, lower, upper, edges}
+use Rattle.game.specs.Game.{absent}
+use Rattle.game.specs.Table.{sum}
+use Rattle.game.specs.Tree.{ancestors}
+use Rattle.game.specs.Net.{weights}
+use Rattle.game.proofs.Conn.{Linked}
+use Rattle.game.proofs.Tables.{member-in}
+use Rattle.game.proofs.Proper.{Proper, proper-nil, proper-cons, linked-ends, linked-tail, same, turned, edge-left, edge-right}
+use Rattle.game.proofs.Sound.{Sound, sound-parent, getD-default}
+use Rattle.game.proofs.Links.{link-of}
+use Rattle.game.proofs.Climbs.{Climbs, top, up}
+use Rattle.game.proofs.Forest.{forest-sound}
+use Rattle.game.proofs.Ancestors.{ancestor-above, edge-ends}
+use Rattle.game.proofs.Weights.{weights-length, weights-entry, weights-sum}
+use Rattle.refusal.specs.Refusal.{fault, firstFault}
+use Rattle.refusal.proofs.Fault.{faultless-proper}
+use Rattle.reach.specs.Balance.{Summable}
+use Rattle.reach.specs.Jumps.{Jumps}
+use Rattle.reach.specs.Layout.{Layout}
+use Rattle.reach.specs.Filed.{upward, Fileable, Filed, Marked}
+use Rattle.reach.specs.Visit.{Slotted, Empty}
+use Rattle.reach.specs.Given.{IsNetOf}
+use Rattle.reach.proofs.Subtree.{climbs-rest}
+
+-- an edge of the list, written upward, joins its two ends
+upward-linked : (es : List Edge) {x y : ℕ} → List·Memᴰ (x ─ y) (upward es) → Linked es x y × (x ≤ y)
+unfolding upward lower upper
+upward-linked [] m = absurd (List·Memᴰ·not-nil m)
+upward-linked ((a ─ b) ∷ es) {x} {y} m =
+    ⊎-elim
+    (λ (e : (x ─ y) ≡ (min a b ─ max a b)). by-cases (decLe a b)
+    (λ (h : a ≤ b). let l = edge-left e ∙ min-eq-left h in let r = edge-right e ∙ max-eq-right h in (linked-ends es (same l r), rw (l, r) h))
+    (λ (h : ¬ (a ≤ b)).
+    let k : b ≤ a = omega arith in
+    let l = edge-left e ∙ min-eq-right k in let r = edge-right e ∙ max-eq-left k in (linked-ends es (turned l r), rw (l, r) k)))
+    (λ t. let (l, h) = upward-linked es t in (linked-tail (a ─ b) l, h))
+    (List·Memᴰ·cases-cons m)
+
+-- at first each pointer is the parent
+jumps-parents : {p : List ℕ} → Sound p → (ends : List ℕ) → Jumps p ends p 0
+jumps-parents {p} s ends =
+    record {
+      sound = s;
+      entries = refl;
+      each = λ x h d.
+          let e : getD p x 0 ≡ getD p x absent = getD-default p x 0 absent h in
+          let above : x < getD p x absent = sound-parent s x h d .0 in
+          rw e (record { higher = above; climb = up (link-of p h refl d) top; passed = λ z l c o. climbs-rest c (λ q. omega arith) });
+    }
+
+-- so the tables of the count are empty at first
+pub empty-tables : {p ancestor previous overlaps : List ℕ} {a b : ℕ} (ends : List ℕ) → Sound p → ancestor ≡ p → previous ≡ replicate a absent → overlaps ≡ replicate b 0
+    → a ≡ length p → b ≡ length p → Empty p ends ancestor previous overlaps
+empty-tables {a = a} {b = b} ends s ea ep eo ha hb =
+    record {
+      jumps = rw ea (jumps-parents s ends);
+      previous-entries = rw (ep, length-replicate) ha;
+      overlaps-entries = rw (eo, length-replicate) hb;
+      none = λ y h. rw (ep, getD-replicate a y absent 0 (omega arith));
+      zero = λ x h. rw (eo, getD-replicate {A = ℕ} b x 0 0 (omega arith));
+    }
+
+module _ {p w xs : List ℕ} (g : IsNetOf p w xs) where
+  -- the edges are a proper graph
+  net-proper : Proper (length p) (edges xs)
+  net-proper = faultless-proper (length p) (edges xs) (g .faultless)
+
+  -- the parents are a sound table
+  net-sound : Sound p
+  net-sound = rw (g .parents) (forest-sound net-proper)
+
+  short : length p ≤ absent
+  short = let v = g .vertices in omega arith
+
+  -- there is one share for each edge
+  pub net-total : sum w ≡ length (edges xs)
+  net-total = ap sum (g .weights) ∙ weights-sum net-proper
+
+  -- the weights can be summed up
+  pub net-summable : Summable p w
+  net-summable =
+      let few = g .few in
+      record { sound = net-sound; short = g .vertices; entries = ap length (g .weights) ∙ weights-length (length p) (edges xs); few = omega (arith, net-total) }
+
+  -- slots that are laid out by them are for its edges
+  pub net-fileable : {stops ends : List ℕ} {m : ℕ} → Layout p w stops ends m → m ≡ length (edges xs) → Fileable p w stops ends (edges xs) m
+  net-fileable l e =
+      record {
+        layout = l;
+        proper = net-proper;
+        weights = λ x h. ap (λ z. getD z x 0) (g .weights) ∙ weights-entry (length p) (edges xs) h;
+      }
+
+  -- the edges go up the forest
+  net-climb : (x y : ℕ) → List·Memᴰ (x ─ y) (upward (edges xs)) → (x < y) × (y < length p) × Climbs p y x
+  net-climb x y m =
+      let (l, h) = upward-linked (edges xs) m in
+      let (hx, hy, d) = net-proper .each x y l in
+      let less : x < y = omega arith in
+      let a = ancestor-above short (member-in y (ancestors p x) (rw (sym (g .parents)) at (edge-ends short net-proper l less))) in
+      (less, hy, up (a .link) (a .rest))
+
+  -- the edges stand in the slots
+  pub net-slotted : {stops ends filed first slots : List ℕ} {m : ℕ} → Layout p w stops ends m → m ≡ length (edges xs) → length slots ≡ m → length first ≡ length p
+      → Filed (edges xs) w stops filed → Marked w stops filed first slots → Slotted p w (edges xs) filed stops ends first slots
+  net-slotted l e s f content marked =
+      record {
+        layout = rw s l;
+        content = content;
+        marked = marked;
+        climb = net-climb;
+        few = rw (s, e) (g .few);
+        entries = (net-summable .entries, f);
+      }
