@@ -30,7 +30,10 @@ use Rattle.linkfile.specs.LinkFile.{linkFile, fileNet, saveRefusal, saveOutcome
 use Rattle.linkfile.proofs.Accepted.{save-accepted}
 use Rattle.linkfile.proofs.RoundTrip.{link-file-length, file-net, undamaged-parents, undamaged-weights}
 use Rattle.relabel.specs.Relabel.{relabelOutcome}
-use Rattle.history.specs.World.{World, Call, start, add, join, save, read, relabel, update, withNet, withFile, step}
+use Rattle.partition.specs.Divide.{divideOutcome}
+use Rattle.report.specs.Answer.{answered}
+use Rattle.report.specs.Report.{reportOutcome}
+use Rattle.history.specs.World.{World, Call, start, add, join, save, read, relabel, divide, report, update, withNet, withFile, step}
 use Rattle.history.specs.Book.{Book, Entry, entry, enter, note, behind, started, added, joined as entered, saved, loaded, passed}
 use Rattle.history.proofs.Update.{update-both, update-same}
 
@@ -205,3 +208,5 @@ step-keeps {w} {b} (read i f) v =
     net-written v i (readRefusal (length (w .nets i .parents)) (length (w .nets i .weights)) (w .files f)) (fileNet (w .files f)) (b .files f) (loaded i f) refl
     (λ z. loaded-kept (w .files f) (b .files f) (v .files f))
 step-keeps {w} {b} (relabel order xs tables) v = subst (Kept w) (sym (note-passed b (relabelOutcome order xs tables .answer))) v
+step-keeps {w} {b} (divide i B k tables) v = subst (Kept w) (sym (note-passed b (divideOutcome (w .nets i) B k tables .answer))) v
+step-keeps {w} {b} (report i B k xs tables) v = subst (Kept w) (sym (note-passed b (answered (reportOutcome (w .nets i) B k xs tables .reply)))) v

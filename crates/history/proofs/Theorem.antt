@@ -1,24 +1,41 @@
 -- No history of calls can bend the result: the theorem, for any world at first and any list of calls.
 -- Assumes nothing.
-use mathlib.Core.Path.{_≡_, refl, sym, ap, _∙_}
+use mathlib.Core.Path.{_≡_, refl, sym, ap, subst, _∙_}
 use mathlib.Core.List.{List, [], _∷_}
 use mathlib.Core.Option.{none, some}
 use Prim.Native.Nat.{ℕ, _*_}
 use native.Mathlib.Omega.{arith}
 use lib.ListN.{length}
-use Rattle.game.specs.Edge.{Edge}
+use Rattle.game.specs.Edge.{Edge, edges}
 use Rattle.game.specs.Net.{Net, netOf}
 use Rattle.game.proofs.Order.{Same, net-order}
 use Rattle.linkfile.specs.LinkFile.{linkFile}
 use Rattle.linkfile.proofs.RoundTrip.{link-file-length}
+use Rattle.report.specs.Report.{Lent, reportOutcome}
+use Rattle.report.proofs.Volume.{volume-bound}
+use Rattle.report.proofs.Own.{own-not-23, accepted-figures}
 use Rattle.history.specs.World.{World, Call, step}
 use Rattle.history.specs.Book.{Book, entry, note, blank}
-use Rattle.history.specs.History.{worldAfter, bookAfter, NetHolds, FileHolds, Holds}
+use Rattle.history.specs.History.{worldAfter, bookAfter, Reports, NetHolds, FileHolds, Holds}
 use Rattle.history.proofs.Steps.{NetOf, FileOf, NetKept, FileKept, Kept, nothing, net-lengths, parents-length, step-keeps}
+
+-- a report that is lent the list of a net
+reports : (net : Net) (ts : List Edge) (B k : ℕ) (xs : List ℕ) (tables : Lent) → net ≡ netOf (length (net .parents)) ts → edges xs ≡ ts → Reports net ts B k (reportOutcome net B k xs tables .reply)
+reports net ts B k xs tables is e =
+    subst (λ (us : List Edge). Reports net us B k (reportOutcome net B k xs tables .reply)) e
+    (record {
+      never-23 = own-not-23 net B k xs tables (is ∙ ap (netOf (length (net .parents))) (sym e));
+      figures = accepted-figures net B k xs tables;
+    })
 
 -- what is kept is what is claimed
 net-holds : {net : Net} {ts : List Edge} → NetOf net ts → NetHolds net ts
-net-holds {net} {ts} g = record { is = of ts (g .is); any-order = λ us s. of us (g .is ∙ net-order (g .vertices) s) }
+net-holds {net} {ts} g = record {
+  is = of ts (g .is);
+  any-order = λ us s. of us (g .is ∙ net-order (g .vertices) s);
+  volume-bound = volume-bound net (g .count .few) (g .proper) (g .is);
+  reports = λ B k xs tables e. reports net ts B k xs tables (of ts (g .is)) e;
+}
   where
     of : (us : List Edge) → net ≡ netOf (g .vertices) us → net ≡ netOf (length (net .parents)) us
     of us e = e ∙ ap (λ (n : ℕ). netOf n us) (sym (parents-length g))

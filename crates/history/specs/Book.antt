@@ -9,7 +9,7 @@ use mathlib.Core.List.{List, [], _++_}
 use mathlib.Core.Option.{Option, none, some}
 use Prim.Native.Nat.{ℕ, zero, suc}
 use Rattle.game.specs.Edge.{Edge, edges}
-use Rattle.history.specs.World.{Call, start, add, join, save, read, relabel, update}
+use Rattle.history.specs.World.{Call, start, add, join, save, read, relabel, divide, report, update}
 
 pub record Book : Type 0 where
   pub nets : ℕ → Option (List Edge)
@@ -31,6 +31,8 @@ entry (join i j different work) = joined i j
 entry (save i f) = saved i f
 entry (read i f) = loaded i f
 entry (relabel order xs tables) = passed
+entry (divide i B k tables) = passed
+entry (report i B k xs tables) = passed
 
 -- a list behind a list; none, if either is none
 unfoldable pub behind : Option (List Edge) → Option (List Edge) → Option (List Edge)

@@ -1,18 +1,23 @@
 -- The one theorem over every list of calls: its statement.
 --
 -- Document 01: "After the calls each net with a list holds the net of it, which is also the net of the same ties in any other order;
--- each file with a list holds the link file of the net of its own list."
+-- each file with a list holds the link file of the net of its own list. For every B and k that Divide accepts on a net with a list, the
+-- volume, taken with that list, is at most the bound. Report lent that list is never refused with 23 and, where accepted, answers this
+-- volume and this bound."
 -- Assumes nothing.
 use mathlib.Core.Path.{_≡_}
 use mathlib.Core.List.{List, [], _∷_}
 use mathlib.Core.Option.{Option, some}
-use Prim.Native.Nat.{ℕ, _*_}
+use Prim.Native.Nat.{ℕ, _*_, _≤_}
 use lib.ListN.{length}
-use Rattle.game.specs.Edge.{Edge}
+use Rattle.game.specs.Edge.{Edge, edges}
 use Rattle.game.specs.Net.{Net, netOf}
 use Rattle.game.proofs.Order.{Same}
 use Rattle.refusal.specs.Outcome.{Outcome}
 use Rattle.linkfile.specs.LinkFile.{linkFile}
+use Rattle.report.specs.Figures.{boundOf, volumeOf}
+use Rattle.report.specs.Answer.{Reply, accepted, refused}
+use Rattle.report.specs.Report.{Lent, reportOutcome}
 use Rattle.history.specs.World.{World, Call, step}
 use Rattle.history.specs.Book.{Book, entry, note}
 
@@ -25,11 +30,20 @@ unfoldable pub bookAfter : World → Book → List Call → Book
 bookAfter w b [] = b
 bookAfter w b (c ∷ cs) = bookAfter (step w c .tables) (note b (entry c) (step w c .answer)) cs
 
+-- what a report, lent the list of a net, answers
+pub record Reports (net : Net) (ts : List Edge) (B k : ℕ) (reply : Reply) : Type 0 where
+  pub never-23 : reply ≡ refused 23 → ⊥
+  pub figures : (bound volume : ℕ) → reply ≡ accepted bound volume → (bound ≡ boundOf net ts B k) × (volume ≡ volumeOf net ts B k)
+
 -- what a net with a list holds
 pub record NetHolds (net : Net) (ts : List Edge) : Type 0 where
   pub is : net ≡ netOf (length (net .parents)) ts
   -- in any other order, and with the ends of any edge turned
   pub any-order : (us : List Edge) → Same ts us → net ≡ netOf (length (net .parents)) us
+  -- for every B and k, so for those too that Divide accepts
+  pub volume-bound : (B k : ℕ) → volumeOf net ts B k ≤ boundOf net ts B k
+  -- lent any numbers that read as the list, and tables of any lengths, holding anything
+  pub reports : (B k : ℕ) (xs : List ℕ) (tables : Lent) → edges xs ≡ ts → Reports net ts B k (reportOutcome net B k xs tables .reply)
 
 -- what a file with a list holds
 pub record FileHolds (bytes : List ℕ) (ts : List Edge) : Type 0 where

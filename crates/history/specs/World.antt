@@ -19,6 +19,9 @@ use Rattle.forest.specs.Add.{addOutcome}
 use Rattle.forest.specs.Join.{joinOutcome}
 use Rattle.linkfile.specs.LinkFile.{saveOutcome, readOutcome}
 use Rattle.relabel.specs.Relabel.{Tables, relabelOutcome}
+use Rattle.partition.specs.Divide.{Tables as Division, divideOutcome}
+use Rattle.report.specs.Answer.{answered}
+use Rattle.report.specs.Report.{Lent, reportOutcome}
 
 -- nets and files by number; a file is its bytes
 pub record World : Type 0 where
@@ -34,6 +37,8 @@ pub data Call : Type 0 where
   save : (net file : ℕ) → Call
   read : (net file : ℕ) → Call
   relabel : (order edges : List ℕ) (tables : Tables) → Call
+  divide : (net B k : ℕ) (tables : Division) → Call
+  report : (net B k : ℕ) (edges : List ℕ) (tables : Lent) → Call
 
 -- f with the value at i put in the place of the old one
 unfoldable pub update : {A : Type 0} → (ℕ → A) → ℕ → A → ℕ → A
@@ -63,3 +68,5 @@ step w (read i f) =
     let o : Outcome Net = readOutcome (w .nets i) (w .files f) in
     record { answer = o .answer; tables = withNet w i (o .tables) }
 step w (relabel order xs tables) = record { answer = relabelOutcome order xs tables .answer; tables = w }
+step w (divide i B k tables) = record { answer = divideOutcome (w .nets i) B k tables .answer; tables = w }
+step w (report i B k xs tables) = record { answer = answered (reportOutcome (w .nets i) B k xs tables .reply); tables = w }

@@ -1,3 +1,4 @@
 pub mod First
 pub mod Fault
 pub mod Ends
+pub mod Sweep

@@ -1,99 +1,29 @@
-use native.Mathlib.Omega.{arith}
-use mathlib.Core.Path.{_≡_, sym, _∙_}
-use mathlib.Core.Logic.{_⊎_, inl, inr, ⊎-elim}
-use Prim.Native.Nat.{ℕ, _+_, _-_, _<_, _≤_}
-use lib.ListN.{length, drop}
+use mathlib.Core.Path.{sym, _∙_}
+use borrow.Author.Tests.{not-true}
+use Rattle.refusal.proofs.Sweep.{none-first}
 use borrow.Author.Needs.{needs}
-use Rattle.game.specs.Edge.{edges as edgesOf}
-use Rattle.refusal.specs.Refusal.{firstFault}
-use Rattle.refusal.proofs.Fault.{scan-stop, scan-on, scan-end}
 use Rattle.refusal.proofs.list_fault.Statement.{statement}
 use Rattle.refusal.proofs.list_fault.Tie as tie
 use Rattle.refusal.proofs.list_fault.Reads as reads
 use Rattle.refusal.proofs.list_fault.Lts as lts
-use Rattle.refusal.proofs.edge_fault.Reads as edge-fault-reads
+use Rattle.refusal.proofs.first_fault.Reads as first-fault-reads
+use Rattle.refusal.proofs.has_fault.Reads as has-fault-reads
 
-abbrev Inv-loop : tie.InvT-loop
-Inv-loop n edges i₀ i = (i ≤ length edges) × (firstFault n (edgesOf (drop i edges)) ≡ firstFault n (edgesOf edges))
+cast-has-fault : tie.Need-cast-has-fault
+cast-has-fault c = search needs
 
-abbrev μ-loop : tie.MeasureT-loop
-μ-loop n edges i₀ i = length edges - i
+has-fault-requires : tie.Need-has-fault-requires
+has-fault-requires c κs = search needs
 
--- src/lib.rt:69:5
-loop-holds : tie.Need-loop-holds Inv-loop μ-loop
-loop-holds c = search needs
+returns : tie.Need-returns
+returns c = sym (none-first _ _ (sym (c .before .has-fault .ensures) ∙ not-true _ (c .if2 .taken)))
 
--- src/lib.rt:69:11
-add-loop : tie.Need-add-loop Inv-loop μ-loop
-add-loop c = search needs
+first-fault-requires : tie.Need-first-fault-requires
+first-fault-requires c κs = search needs
 
--- src/lib.rt:70:36
-mul-edge-fault : tie.Need-mul-edge-fault Inv-loop μ-loop
-mul-edge-fault c = search needs
-
--- src/lib.rt:70:36
-shared-slice-read-edge-fault : tie.Need-shared-slice-read-edge-fault Inv-loop μ-loop
-shared-slice-read-edge-fault c = search needs
-
--- src/lib.rt:70:52
-add-edge-fault : tie.Need-add-edge-fault Inv-loop μ-loop
-add-edge-fault c = search needs
-
--- src/lib.rt:70:46
-mul-edge-fault-2 : tie.Need-mul-edge-fault-2 Inv-loop μ-loop
-mul-edge-fault-2 c = search needs
-
--- src/lib.rt:70:46
-shared-slice-read-edge-fault-2 : tie.Need-shared-slice-read-edge-fault-2 Inv-loop μ-loop
-shared-slice-read-edge-fault-2 c = search needs
-
--- src/lib.rt:70:13
-edge-fault-requires : tie.Need-edge-fault-requires Inv-loop μ-loop
-edge-fault-requires c κs = search needs
-
--- src/lib.rt:72:13
-returns : tie.Need-returns Inv-loop μ-loop
-returns c =
-    c .before .edge-fault .ensures
-    ∙ sym (scan-stop _ _ _ (c .before .before .before .before .loop-test .taken) (λ e. c .if1 .taken (c .before .edge-fault .ensures ∙ e)))
-    ∙ c .before .before .before .before .before .loop .inv .1
-
--- src/lib.rt:74:9
-add-i : tie.Need-add-i Inv-loop μ-loop
-add-i c = search needs
-
--- src/lib.rt:69:5
-loop-less : tie.Need-loop-less Inv-loop μ-loop
-loop-less c = search needs
-
--- src/lib.rt:69:5
-loop-again : tie.Need-loop-again Inv-loop μ-loop
-loop-again c = (
-  search needs,
-  scan-on _ _ _ (c .before .before .before .before .loop-test .taken) (sym (c .before .edge-fault .ensures) ∙ c .if1 .left)
-      ∙ c .before .before .before .before .before .loop .inv .1,
-)
-
--- src/lib.rt:65:1
-returns-2 : tie.Need-returns-2 Inv-loop μ-loop
-returns-2 c = sym (scan-end _ _ _ (c .loop-test .left)) ∙ c .before .loop .inv .1
+returns-2 : tie.Need-returns-2
+returns-2 c = search needs
 
 pub list-fault-spec : {M : Type 1} → statement M
 list-fault-spec =
-    tie.close
-    (tie.spec
-    Inv-loop
-    μ-loop
-    loop-holds
-    add-loop
-    mul-edge-fault
-    shared-slice-read-edge-fault
-    add-edge-fault
-    mul-edge-fault-2
-    shared-slice-read-edge-fault-2
-    edge-fault-requires
-    returns
-    add-i
-    loop-less
-    loop-again
-    returns-2)
+    tie.close (tie.spec cast-has-fault has-fault-requires returns first-fault-requires returns-2)

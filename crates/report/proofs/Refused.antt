@@ -1,0 +1,130 @@
+-- How the code's tests say what the definition of the refusals asks, and what is known where none was given.
+-- Assumes nothing.
+use mathlib.Core.Path.{_≡_, refl, sym, ap, _∙_}
+use mathlib.Core.Bool.{Bool, true, false, not, _||_}
+use mathlib.Core.List.{List}
+use Prim.Native.Nat.{ℕ, _+_, _/_, _%_, _≤_, _<_}
+use native.Mathlib.Omega.{arith}
+use lib.Dec.{eqb, ltb}
+use lib.ListN.{length}
+use borrow.Author.Tests.{lt-ltb, le-ltb, ltb-false, eqb-true, not-false}
+use Rattle.game.specs.Edge.{edges}
+use Rattle.game.specs.Net.{Net, net}
+use Rattle.game.proofs.Edges.{edges-length}
+use Rattle.game.proofs.Bools.{or-neither}
+use Rattle.refusal.specs.Limits.{maxEdges}
+use Rattle.refusal.specs.Refusal.{badCount, wrongLength, odd, firstFault}
+use Rattle.refusal.proofs.First.{first-none, given-none, good-count, length-right}
+use Rattle.forest.specs.Work.{workOf, badWork}
+use Rattle.forest.proofs.Rooms.{good-work}
+use Rattle.partition.specs.Divide.{tables, wrongTables, divideRefusal}
+use Rattle.partition.proofs.Refused.{Sized, tables-not, refused-not}
+use Rattle.report.specs.Compare.{Comparable}
+use Rattle.report.specs.Report.{written, Lent, lent, wrongFigures, wrongLent, earlyRefusal}
+
+-- 20, by half the length of the list
+pub many-edges : (xs : List ℕ) → maxEdges < length xs / 2 → ltb maxEdges (length (edges xs)) ≡ true
+many-edges xs h = lt-ltb maxEdges (length (edges xs)) (omega (arith, edges-length xs))
+
+pub few-edges : (xs : List ℕ) → length xs / 2 ≤ maxEdges → ltb maxEdges (length (edges xs)) ≡ false
+few-edges xs h = le-ltb maxEdges (length (edges xs)) (omega (arith, edges-length xs))
+
+-- the tables that are lent, one by one
+module _ (p w xs c t b l eb re bc cp cw e j lo : List ℕ) where
+  abbrev was : Lent
+  was = lent (written (tables c t b l) eb re bc) (net cp cw) (workOf e j lo)
+
+  n : ℕ
+  n = length p
+
+  -- 2, by the lengths that the code compares
+  pub wrong-lengths : (k : ℕ) {blocks : ℕ} {d f o : Bool} → blocks ≡ k
+      → d ≡ (wrongLength (length w) (length p) || wrongLength (length c) (length p) || wrongLength (length t) (length p) || wrongLength (length b) (length p) || wrongLength (length l) blocks)
+      → f ≡ (wrongLength (length eb) (length xs / 2) || wrongLength (length re) (length p) || wrongLength (length bc) (length p) || wrongLength (length cp) (length p) || wrongLength (length cw) (length p))
+      → o ≡ (wrongLength (length e) (length p) || wrongLength (length j) (length p) || wrongLength (length lo) (length p + length xs / 2))
+      → (d || f || o || not (eqb (length xs % 2) 0)) ≡ wrongLent (net p w) k xs was
+  unfolding wrongLent wrongTables wrongFigures badWork odd
+  wrong-lengths k q x y z = rw (x, y, z, q, ← edges-length xs) refl
+
+-- the lengths where none is wrong
+pub record Lengths (of : Net) (k : ℕ) (xs : List ℕ) (was : Lent) : Type 0 where
+  pub division : wrongTables of k (was .written .division) ≡ false
+  pub sized : Sized of k (was .written .division)
+  pub edge-blocks : length (was .written .edgeBlocks) ≡ length (edges xs)
+  pub reaches : length (was .written .reach) ≡ length (of .parents)
+  pub counts : length (was .written .blockCount) ≡ length (of .parents)
+  pub compared-parents : length (was .compared .parents) ≡ length (of .parents)
+  pub compared-weights : length (was .compared .weights) ≡ length (of .parents)
+  pub ends : length (was .work .ends) ≡ length (of .parents)
+  pub jump : length (was .work .jump) ≡ length (of .parents)
+  pub lower : length (was .work .lower) ≡ length (of .parents) + length (edges xs)
+  pub even : length xs % 2 ≡ 0
+
+pub lengths-right : (of : Net) (k : ℕ) (xs : List ℕ) (was : Lent) → wrongLent of k xs was ≡ false → Lengths of k xs was
+unfolding wrongLent wrongFigures odd
+lengths-right of k xs was e =
+    let a = or-neither _ _ e in
+    let b = or-neither _ _ (a .0) in
+    let c = or-neither _ _ (b .0) in
+    let d4 = or-neither _ _ (c .1) in
+    let d3 = or-neither _ _ (d4 .0) in
+    let d2 = or-neither _ _ (d3 .0) in
+    let d1 = or-neither _ _ (d2 .0) in
+    let g = good-work (length (of .parents)) (length (of .parents) + length (edges xs)) (was .work) (b .1) in
+    record {
+      division = c .0;
+      sized = tables-not of k (was .written .division) (c .0);
+      edge-blocks = length-right _ _ (d1 .0);
+      reaches = length-right _ _ (d1 .1);
+      counts = length-right _ _ (d2 .1);
+      compared-parents = length-right _ _ (d3 .1);
+      compared-weights = length-right _ _ (d4 .1);
+      ends = g .0;
+      jump = g .1;
+      lower = g .2;
+      even = eqb-true (length xs % 2) 0 (not-false (eqb (length xs % 2) 0) (a .1));
+    }
+
+-- what is known where nothing was refused before the comparison
+pub record Ready (of : Net) (B k : ℕ) (xs : List ℕ) (was : Lent) : Type 0 where
+  pub lengths : Lengths of k xs was
+  pub divides : divideRefusal of B k (was .written .division) ≡ 0
+  pub compares : Comparable of xs (was .compared) (was .work)
+  pub faultless : firstFault (length (of .parents)) (edges xs) ≡ 0
+  pub few : length (edges xs) ≤ maxEdges
+
+pub ready : (of : Net) (B k : ℕ) (xs : List ℕ) (was : Lent) → earlyRefusal of B k xs (wrongLent of k xs was) ≡ 0 → Ready of B k xs was
+unfolding earlyRefusal
+ready of B k xs was z =
+    let a = first-none _ _ z in
+    let b = first-none _ _ (a .1) in
+    let c = first-none _ _ (b .1) in
+    let d = first-none _ _ (c .1) in
+    let f = first-none _ _ (d .1) in
+    let g = first-none _ _ (f .1) in
+    let h = first-none _ _ (g .1) in
+    let count : badCount (length (of .parents)) ≡ false = given-none _ 0 (a .0) in
+    let n = good-count (length (of .parents)) count in
+    let l : Lengths of k xs was = lengths-right of k xs was (given-none _ 1 (b .0)) in
+    let few : length (edges xs) ≤ maxEdges = ltb-false maxEdges (length (edges xs)) (given-none _ 19 (g .0)) in
+    record {
+      lengths = l;
+      divides = refused-not of B k (was .written .division) count (l .division) (given-none _ 7 (c .0)) (given-none _ 29 (d .0)) (given-none _ 21 (h .0));
+      faultless = f .0;
+      few = few;
+      compares = record {
+        parents = sym (l .compared-parents);
+        weights = l .sized .weights ∙ sym (l .compared-parents);
+        growable = record {
+          some = omega (arith, n .0, l .compared-parents);
+          vertices = omega (arith, n .1, l .compared-parents);
+          even = l .even;
+          few = few;
+          faultless = ap (λ (m : ℕ). firstFault m (edges xs)) (l .compared-parents) ∙ f .0;
+          weights = l .compared-weights ∙ sym (l .compared-parents);
+          ends = l .ends ∙ sym (l .compared-parents);
+          jump = l .jump ∙ sym (l .compared-parents);
+          lower = l .lower ∙ ap (λ (m : ℕ). m + length (edges xs)) (sym (l .compared-parents));
+        };
+      };
+    }

@@ -1,0 +1,149 @@
+-- What the steps of writing a report leave, put together.
+-- Assumes nothing.
+use mathlib.Core.Path.{_≡_, refl, sym, ap, ap₂, subst, _∙_}
+use mathlib.Core.Logic.{⊎-elim}
+use mathlib.Core.Bool.{Bool, true, false}
+use mathlib.Core.List.{List, List·Memᴰ}
+use Prim.Native.Nat.{ℕ, suc, _+_, _≤_, _<_}
+use native.Mathlib.Nat.{add-zero}
+use native.Mathlib.Numerals.{add-one}
+use native.Mathlib.Decide.{le-ind}
+use native.Mathlib.Omega.{arith}
+use lib.ListN.{length, getD}
+use Rattle.game.specs.Table.{tabulate, sum, member}
+use Rattle.game.specs.Edge.{Edge, edges}
+use Rattle.game.specs.Net.{Net, net, reach, weights}
+use Rattle.game.proofs.Proper.{Proper}
+use Rattle.game.proofs.Tables.{member-in, tabulate-length, tabulate-ext}
+use Rattle.refusal.specs.Refusal.{firstFault}
+use Rattle.refusal.proofs.Fault.{faultless-proper}
+use Rattle.partition.specs.Divide.{Tables, tables, divided, maxBlocks}
+use Rattle.partition.specs.Cut.{top}
+use Rattle.partition.specs.Work.{Fitting}
+use Rattle.partition.proofs.Sums.{only}
+use Rattle.reach.proofs.Counts.{bool-false}
+use Rattle.report.specs.Figures.{different, edgeBlocks, blocksAt, blockCount, bound, boundOf, volumeOf}
+use Rattle.report.specs.Answer.{accepted}
+use Rattle.report.specs.Report.{written, figures}
+use Rattle.report.specs.Work.{boundBy, volumeBy, Countable, CountedBlocks, Reportable, Spread, Answered}
+use Rattle.report.proofs.Totals.{table-total, sum-next}
+use Rattle.report.proofs.Blocks.{block-at}
+use Rattle.report.proofs.Divided.{cuts, packed, divided-top, divided-block, block-below}
+use Rattle.report.proofs.Stamps.{different-total}
+use Rattle.report.proofs.Summed.{bound-by, volume-by}
+
+-- tables fit as long as their lengths are kept
+pub fitting-kept : {n : ℕ} {c t b l : List ℕ} → Fitting n (tables c t b l) → {c′ t′ b′ : List ℕ}
+    → length c′ ≡ length c → length t′ ≡ length t → length b′ ≡ length b → Fitting n (tables c′ t′ b′ l)
+fitting-kept f e g h = record { carried = e ∙ f .carried; top = g ∙ f .top; block = h ∙ f .block; some = f .some; few = f .few }
+
+-- blocks below k are counted alike by any larger number
+different-next : (n : ℕ) (bs : List ℕ) → different (suc n) bs ≡ different n bs + only (member n bs) 1
+different-next n bs = as-sum (suc n) ∙ subst (λ (m : ℕ). sum (tabulate m f) ≡ sum (tabulate n f) + f n) (add-one n) (sum-next n f) ∙ ap (λ (v : ℕ). v + f n) (sym (as-sum n))
+  where
+    f : ℕ → ℕ
+    f j = only (member j bs) 1
+
+    as-sum : (m : ℕ) → different m bs ≡ sum (tabulate m f)
+    as-sum m = different-total m bs ∙ sym (table-total m f)
+
+different-more : (k m : ℕ) (bs : List ℕ) → ((j : ℕ) → List·Memᴰ j bs → j < k) → k ≤ m → different m bs ≡ different k bs
+different-more k m bs below h =
+    le-ind (λ (m : ℕ). different m bs ≡ different k bs) refl
+    (λ n g e.
+    let none : member n bs ≡ false = bool-false (member n bs) (λ (t : member n bs ≡ true). omega (arith, below n (member-in n bs t))) in
+    different-next n bs ∙ ap₂ _+_ e (ap (λ (b : Bool). only b 1) none) ∙ add-zero (different k bs))
+    m h
+
+-- What Divide's blocks count to.
+module _ (of : Net) (B k : ℕ) (some : 0 < k) (few : k ≤ maxBlocks) {es : List Edge} (proper : Proper (length (of .parents)) es) where
+  n : ℕ
+  n = length (of .parents)
+
+  block : List ℕ
+  block = divided of B k .block
+
+  at-below : (y : ℕ) → y < n → (j : ℕ) → List·Memᴰ j (blocksAt block es y) → j < k
+  unfolding n block
+  at-below y h j m =
+      ⊎-elim
+      (λ d. let (e, i, l, q) = d in rw q (block-below of B k some y h))
+      (λ d. let (u, l, e, q) = d in rw q (block-below of B k some u (omega arith)))
+      (block-at block es y m)
+
+  -- a stamp for each of the most blocks there can be tells the block counts
+  pub counts-any : tabulate (length (of .parents)) (blockCount maxBlocks (divided of B k .block) es) ≡ tabulate (length (of .parents)) (blockCount k (divided of B k .block) es)
+  unfolding blockCount n block
+  counts-any = tabulate-ext n (blockCount maxBlocks block es) (blockCount k block es) (λ y h. different-more k maxBlocks (blocksAt block es y) (at-below y h) few)
+
+-- once the net is divided and its reaches are written
+module _ {p w xs c t b l eb re bc : List ℕ} {B : ℕ} (q : Reportable p w B xs (written (tables c t b l) eb re bc)) {c′ t′ b′ l′ re′ : List ℕ}
+    (s : Spread p w B (length l) xs (tables c′ t′ b′ l′) re′) where
+  of : Net
+  of = net p w
+
+  k : ℕ
+  k = length l
+
+  block-is : b′ ≡ divided of B k .block
+  unfolding of k
+  block-is = ap (λ (d : Tables). d .block) (s .divided-so)
+
+  top-is : t′ ≡ divided of B k .top
+  unfolding of k
+  top-is = ap (λ (d : Tables). d .top) (s .divided-so)
+
+  block-long : length b′ ≡ length p
+  unfolding of
+  block-long = ap length (block-is ∙ divided-block of B k) ∙ tabulate-length (length p) (λ x. packed of B k (top p (cuts of B k) x))
+
+  pub top-long : length t′ ≡ length p
+  unfolding of
+  top-long = ap length (top-is ∙ divided-top of B k) ∙ tabulate-length (length p) (top p (cuts of B k))
+
+  pub reach-long : length re′ ≡ length p
+  reach-long = ap length (s .reached) ∙ tabulate-length (length p) (reach p (edges xs))
+
+  pub block-faultless : firstFault (length b′) (edges xs) ≡ 0
+  block-faultless = ap (λ (n : ℕ). firstFault n (edges xs)) block-long ∙ q .own .faultless
+
+  below-most : (x : ℕ) → x < length b′ → getD b′ x 0 < maxBlocks
+  unfolding of k
+  below-most x h =
+      omega (arith, ap (λ (t : List ℕ). getD t x 0) block-is, block-below of B k (q .division .some) x (omega (arith, block-long)), q .division .few)
+
+  module _ {e lo : List ℕ} where
+    pub block-countable : {bc′ : List ℕ} → length bc′ ≡ length bc → length e ≡ length p → length lo ≡ length p + length (edges xs) → Countable xs w b′ bc′ e lo
+    block-countable f g h = record {
+      few = omega (arith, block-long, q .own .vertices);
+      faultless = block-faultless;
+      weighed = q .own .weights ∙ ap (λ (n : ℕ). weights n (edges xs)) (sym block-long);
+      blocks = below-most;
+      table = f ∙ q .counts ∙ sym block-long;
+      ends-fit = g ∙ sym block-long;
+      lower-fits = h ∙ ap (λ (n : ℕ). n + length (edges xs)) (sym block-long);
+      small = q .own .few;
+    }
+
+    -- all that was written, and the answer
+    pub all-answered : {eb″ bc″ e″ lo″ : List ℕ} {bo vo : ℕ} → eb″ ≡ edgeBlocks b′ (edges xs) → CountedBlocks xs b′ e lo bc″ e″ lo″
+        → bo ≡ boundBy p t′ re′ → vo ≡ volumeBy bc″
+        → Answered (net p w) B (length l) (edges xs) e lo (accepted bo vo) (written (tables c′ t′ b′ l′) eb″ re′ bc″) e″ lo″
+    unfolding figures boundOf volumeOf of k
+    all-answered {eb″} {bc″} f g u v = record {
+      answers = ap₂ accepted
+          (u ∙ bound-by p (edges xs) t′ (s .reached) ∙ ap (bound p (edges xs)) top-is)
+          (v ∙ volume-by (length p) (length l) (divided of B k .block) (edges xs) counted);
+      writes = λ i. written (s .divided-so i) ((f ∙ ap (λ (t : List ℕ). edgeBlocks t (edges xs)) block-is) i) (s .reached i) (counted i);
+      clear-ends = g .clear-ends;
+      clear-lower = g .clear-lower;
+    }
+      where
+        proper : Proper (length p) (edges xs)
+        proper = faultless-proper (length p) (edges xs) (q .own .faultless)
+
+        counted : bc″ ≡ tabulate (length p) (blockCount (length l) (divided of B k .block) (edges xs))
+        counted =
+            g .counts
+            ∙ (λ i. tabulate (block-long i) (blockCount maxBlocks (block-is i) (edges xs)))
+            ∙ counts-any of B k (q .division .some) (q .division .few) proper

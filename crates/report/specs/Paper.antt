@@ -1,0 +1,88 @@
+-- Document 01, "Whole case": what Report ends with, computed from the definitions as one table; with it "With B = 3 rank 0 is the only
+-- cut; with B = 2 the answer is 22. With k = 1 volume is 0", and a list that is not the net's own, which is 23.
+-- Assumes nothing.
+use mathlib.Core.Path.{_≡_, refl}
+use mathlib.Core.List.{List, [], _∷_}
+use Prim.Native.Nat.{ℕ}
+use lib.ListN.{replicate}
+use Rattle.game.specs.Table.{tabulate, sum, count, member}
+use Rattle.game.specs.Edge.{lower, edges}
+use Rattle.game.specs.Game.{absent}
+use Rattle.game.specs.Tree.{sound}
+use Rattle.game.specs.Net.{Net, net, netOf, reach}
+use Rattle.refusal.specs.Refusal.{given, first, unless, badCount, wrongLength, odd, fault, firstFault}
+use Rattle.net.specs.Damage.{damagedBy, damaged}
+use Rattle.forest.specs.Work.{workOf, badWork, zeros, cleared}
+use Rattle.partition.specs.Divide.{tables, badLimits, tooHeavy, divided, wrongTables}
+use Rattle.report.specs.Figures.{filtered, edgeBlock, edgeBlocks, touches, blocksAt, different, blockCount, isCut, bound, volume, boundOf, volumeOf}
+use Rattle.report.specs.Compare.{sameTable, sameNet}
+use Rattle.report.specs.Answer.{accepted, refused, replied}
+use Rattle.report.specs.Report.{Written, written, Lent, lent, ReportOutcome, reported, wrongFigures, wrongLent, earlyRefusal, lateRefusal, reportRefusal, figures, reportOutcome}
+
+-- the net of the whole case and its edges, by rank
+whole : Net
+whole = net (2 ∷ 3 ∷ 4 ∷ 4 ∷ 5 ∷ absent ∷ []) (3 ∷ 2 ∷ 1 ∷ 0 ∷ 0 ∷ 0 ∷ [])
+
+own : List ℕ
+own = 0 ∷ 2 ∷ 0 ∷ 4 ∷ 1 ∷ 3 ∷ 1 ∷ 4 ∷ 2 ∷ 5 ∷ 2 ∷ 0 ∷ []
+
+-- another list: its last edge leads from 1, not from 0
+other : List ℕ
+other = 0 ∷ 2 ∷ 0 ∷ 4 ∷ 1 ∷ 3 ∷ 1 ∷ 4 ∷ 2 ∷ 5 ∷ 2 ∷ 1 ∷ []
+
+-- tables of the right lengths, lent with sevens in them
+sevens : ℕ → List ℕ
+sevens n = replicate n 7
+
+given-tables : ℕ → Written
+given-tables k = written (tables (sevens 6) (sevens 6) (sevens 6) (sevens k)) (sevens 6) (sevens 6) (sevens 6)
+
+given-all : ℕ → Lent
+given-all k = lent (given-tables k) (net (sevens 6) (sevens 6)) (workOf (sevens 6) (sevens 6) (sevens 12))
+
+-- B = 4 and k = 2; B = 3; k = 1; B = 2; the other list; a table of blocks that is too short
+pub computed : List ReportOutcome
+computed =
+    reportOutcome whole 4 2 own (given-all 2)
+    ∷ reportOutcome whole 3 2 own (given-all 2)
+    ∷ reportOutcome whole 4 1 own (given-all 1)
+    ∷ reportOutcome whole 2 2 own (given-all 2)
+    ∷ reportOutcome whole 4 2 other (given-all 2)
+    ∷ reportOutcome whole 4 2 own (given-all 1)
+    ∷ []
+
+-- the work tables, cleared, and the reaches, which no cutting changes
+ended : Written → Net → Lent
+ended w n = lent w n (workOf (replicate 6 0) (replicate 6 0) (replicate 12 0))
+
+reaches : List ℕ
+reaches = 2 ∷ 2 ∷ 2 ∷ 1 ∷ 1 ∷ 0 ∷ []
+
+pub printed : List ReportOutcome
+printed =
+    reported (accepted 2 1)
+    (ended
+    (written
+    (tables (3 ∷ 2 ∷ 4 ∷ 2 ∷ 2 ∷ 2 ∷ []) (2 ∷ 5 ∷ 2 ∷ 5 ∷ 5 ∷ 5 ∷ []) (0 ∷ 1 ∷ 0 ∷ 1 ∷ 1 ∷ 1 ∷ []) (4 ∷ 2 ∷ []))
+    (0 ∷ 0 ∷ 1 ∷ 1 ∷ 0 ∷ 0 ∷ []) reaches (1 ∷ 1 ∷ 1 ∷ 1 ∷ 2 ∷ 1 ∷ []))
+    whole)
+    ∷ reported (accepted 2 2)
+    (ended
+    (written
+    (tables (3 ∷ 2 ∷ 1 ∷ 2 ∷ 3 ∷ 3 ∷ []) (0 ∷ 5 ∷ 5 ∷ 5 ∷ 5 ∷ 5 ∷ []) (0 ∷ 1 ∷ 1 ∷ 1 ∷ 1 ∷ 1 ∷ []) (3 ∷ 3 ∷ []))
+    (0 ∷ 0 ∷ 1 ∷ 1 ∷ 1 ∷ 0 ∷ []) reaches (1 ∷ 1 ∷ 2 ∷ 1 ∷ 2 ∷ 1 ∷ []))
+    whole)
+    ∷ reported (accepted 2 0)
+    (ended
+    (written
+    (tables (3 ∷ 2 ∷ 4 ∷ 2 ∷ 2 ∷ 2 ∷ []) (2 ∷ 5 ∷ 2 ∷ 5 ∷ 5 ∷ 5 ∷ []) (replicate 6 0) (6 ∷ []))
+    (replicate 6 0) reaches (replicate 6 1))
+    whole)
+    ∷ reported (refused 22) (given-all 2)
+    ∷ reported (refused 23) (ended (given-tables 2) (net (2 ∷ 2 ∷ 3 ∷ 4 ∷ 5 ∷ absent ∷ []) (2 ∷ 3 ∷ 1 ∷ 0 ∷ 0 ∷ 0 ∷ [])))
+    ∷ reported (refused 2) (given-all 1)
+    ∷ []
+
+pub paper : computed ≡ printed
+unfolding computed printed whole own other sevens given-tables given-all ended reaches reportOutcome reportRefusal earlyRefusal lateRefusal wrongLent wrongFigures figures first given unless badCount wrongLength odd fault firstFault damaged damagedBy sound badWork cleared zeros badLimits tooHeavy wrongTables divided replied sameNet sameTable netOf reach edgeBlocks edgeBlock lower blockCount different blocksAt filtered touches bound boundOf isCut volume volumeOf tabulate sum count member edges
+paper = refl

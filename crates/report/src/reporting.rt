@@ -1,0 +1,266 @@
+// The call Report. It decides by reading alone, up to 22; then it grows the net of the edges into the comparison tables and compares;
+// only then it writes anything else.
+use crate::ReportAnswer;
+use crate::comparing;
+use crate::counting;
+use crate::summing;
+use net::Forest;
+use partition::cut_and_pack;
+use reach::reaches;
+ghost use mathlib.Core.Path.{_≡_};
+ghost use mathlib.Core.Bool.{false, _||_};
+ghost use Prim.Native.Nat.{_+_};
+ghost use lib.ListN.{length};
+ghost use Rattle.game.specs.Edge.{edges as edgesOf};
+ghost use Rattle.game.specs.Net.{net};
+ghost use Rattle.refusal.specs.Refusal.{wrongLength};
+ghost use Rattle.partition.specs.Divide.{tables};
+ghost use Rattle.forest.specs.Work.{workOf};
+ghost use Rattle.report.specs.Report.{earlyRefusal, written, lent, reported, reportOutcome};
+ghost use Rattle.report.specs.Answer.{reply};
+ghost use Rattle.report.specs.Work.{Reportable, Spread, Answered};
+
+fn wide(x: u32) -> usize
+    ensures { λ r. ⌜ r ≡ x ⌝ }
+{
+    x as usize
+}
+
+// Whether one of the tables of a division has another length than it needs: n entries for the vertices, k for the blocks.
+fn wrong_division(
+    n: usize,
+    k: usize,
+    weights: usize,
+    carried: usize,
+    top: usize,
+    block: usize,
+    block_loads: usize,
+) -> bool
+    ensures { λ r. ⌜ r ≡ (wrongLength weights n || wrongLength carried n || wrongLength top n || wrongLength block n || wrongLength «block_loads» k) ⌝ }
+{
+    (weights != n) | (carried != n) | (top != n) | (block != n) | (block_loads != k)
+}
+
+// Whether one of the other tables has: n entries for the vertices, m for the edges, n + m for both.
+fn wrong_figures(
+    n: usize,
+    m: usize,
+    edge_blocks: usize,
+    reach: usize,
+    block_count: usize,
+    compared_parents: usize,
+    compared_weights: usize,
+) -> bool
+    ensures { λ r. ⌜ r ≡ (wrongLength «edge_blocks» m || wrongLength reach n || wrongLength «block_count» n || wrongLength «compared_parents» n || wrongLength «compared_weights» n) ⌝ }
+{
+    (edge_blocks != m)
+        | (reach != n)
+        | (block_count != n)
+        | (compared_parents != n)
+        | (compared_weights != n)
+}
+
+// Whether one of the work tables has.
+fn wrong_work(n: usize, both: usize, ends: usize, jump: usize, lower: usize) -> bool
+    ensures { λ r. ⌜ r ≡ (wrongLength ends n || wrongLength jump n || wrongLength lower both) ⌝ }
+{
+    (ends != n) | (jump != n) | (lower != both)
+}
+
+// The number for which Report is refused before anything is compared, or 0. Whether a length is wrong was found out before.
+fn early_refusal(
+    parents: &[u32],
+    weights: &[u32],
+    bound: u32,
+    blocks: u32,
+    edges: &[u32],
+    wrong: bool,
+) -> u32
+    requires { ⌜ (wrong ≡ false → length (now weights) ≡ length (now parents)) ⌝ }
+    ensures { λ r. ⌜ r ≡ earlyRefusal (net (now (parents .entry)) (now (weights .entry))) bound blocks (now (edges .entry)) wrong ⌝ }
+{
+    let n = parents.len();
+    if refusal::bad_count(n) {
+        return 1;
+    }
+    if wrong {
+        return 2;
+    }
+    if partition::bad_limits(bound, blocks) {
+        return 8;
+    }
+    if Forest::of(parents, weights).is_damaged(parents) {
+        return 30;
+    }
+    let fault = refusal::list_fault(n, edges);
+    if fault != 0 {
+        return fault;
+    }
+    if refusal::MAX_EDGES < edges.len() / 2 {
+        return 20;
+    }
+    if partition::too_heavy(bound, weights) {
+        return 22;
+    }
+    0
+}
+
+// Divides the net, and writes the reaches of its vertices. These come first: until the other tables are written, they are room for
+// the counting.
+fn divide_and_reach(
+    parents: &[u32],
+    weights: &[u32],
+    bound: u32,
+    edges: &[u32],
+    carried: &mut [u32],
+    top: &mut [u32],
+    block: &mut [u32],
+    block_loads: &mut [u32],
+    edge_blocks: &mut [u32],
+    reach: &mut [u32],
+    block_count: &mut [u32],
+)
+    requires { ⌜ Reportable (now parents) (now weights) bound (now edges) (written (tables (now carried) (now top) (now block) (now «block_loads»)) (now «edge_blocks») (now reach) (now «block_count»)) ⌝ }
+    ensures { λ _. ⌜ Spread (now (parents .entry)) (now (weights .entry)) bound (length (now («block_loads» .entry))) (now (edges .entry)) (tables (now (carried .exit)) (now (top .exit)) (now (block .exit)) (now («block_loads» .exit))) (now (reach .exit)) ⌝ }
+{
+    reaches(
+        parents,
+        weights,
+        edges,
+        reach,
+        carried,
+        top,
+        block,
+        block_count,
+        edge_blocks,
+    );
+    cut_and_pack(parents, weights, bound, carried, top, block, block_loads);
+}
+
+// Writes all that a report says of a net, and answers its bound and its volume. The work tables end as zeros.
+fn write_report(
+    parents: &[u32],
+    weights: &[u32],
+    bound: u32,
+    edges: &[u32],
+    carried: &mut [u32],
+    top: &mut [u32],
+    block: &mut [u32],
+    block_loads: &mut [u32],
+    edge_blocks: &mut [u32],
+    reach: &mut [u32],
+    block_count: &mut [u32],
+    ends: &mut [u32],
+    lower: &mut [u32],
+) -> ReportAnswer
+    requires { ⌜ Reportable (now parents) (now weights) bound (now edges) (written (tables (now carried) (now top) (now block) (now «block_loads»)) (now «edge_blocks») (now reach) (now «block_count»)) ⌝ }
+    requires { ⌜ (length (now ends) ≡ length (now parents)) × (length (now lower) ≡ length (now parents) + length (edgesOf (now edges))) ⌝ }
+    ensures { λ r. ⌜ Answered (net (now (parents .entry)) (now (weights .entry))) bound (length (now («block_loads» .entry))) (edgesOf (now (edges .entry))) (now (ends .entry)) (now (lower .entry)) (reply r) (written (tables (now (carried .exit)) (now (top .exit)) (now (block .exit)) (now («block_loads» .exit))) (now («edge_blocks» .exit)) (now (reach .exit)) (now («block_count» .exit))) (now (ends .exit)) (now (lower .exit)) ⌝ }
+{
+    divide_and_reach(
+        parents,
+        weights,
+        bound,
+        edges,
+        carried,
+        top,
+        block,
+        block_loads,
+        edge_blocks,
+        reach,
+        block_count,
+    );
+    counting::write_edge_blocks(edges, block, edge_blocks);
+    counting::write_block_counts(edges, weights, block, block_count, ends, lower);
+    let bound = summing::bound(parents, top, reach);
+    let volume = summing::volume(block_count);
+    ReportAnswer::Accepted { bound, volume }
+}
+
+// Divides a net and reports what the division costs, given the net's own edges. Beside Divide's tables it writes the block of each
+// edge, the reach and the block count of each vertex, and answers the bound and the volume. The comparison tables end holding the net
+// of the edges. The work tables take n, n and n + m entries for n vertices and m edges, and end as zeros. A refused call leaves every
+// table as it was, but for these five after 23.
+pub fn report(
+    parents: &[u32],
+    weights: &[u32],
+    bound: u32,
+    blocks: u32,
+    edges: &[u32],
+    carried: &mut [u32],
+    top: &mut [u32],
+    block: &mut [u32],
+    block_loads: &mut [u32],
+    edge_blocks: &mut [u32],
+    reach: &mut [u32],
+    block_count: &mut [u32],
+    compared_parents: &mut [u32],
+    compared_weights: &mut [u32],
+    ends: &mut [u32],
+    jump: &mut [u32],
+    lower: &mut [u32],
+) -> ReportAnswer
+    ensures { λ r. ⌜
+        reported (reply r)
+        (lent (written (tables (now (carried .exit)) (now (top .exit)) (now (block .exit)) (now («block_loads» .exit))) (now («edge_blocks» .exit)) (now (reach .exit)) (now («block_count» .exit)))
+        (net (now («compared_parents» .exit)) (now («compared_weights» .exit)))
+        (workOf (now (ends .exit)) (now (jump .exit)) (now (lower .exit))))
+        ≡ reportOutcome (net (now (parents .entry)) (now (weights .entry))) bound blocks (now (edges .entry))
+        (lent (written (tables (now (carried .entry)) (now (top .entry)) (now (block .entry)) (now («block_loads» .entry))) (now («edge_blocks» .entry)) (now (reach .entry)) (now («block_count» .entry)))
+        (net (now («compared_parents» .entry)) (now («compared_weights» .entry)))
+        (workOf (now (ends .entry)) (now (jump .entry)) (now (lower .entry)))) ⌝ }
+{
+    let n = parents.len();
+    let m = edges.len() / 2;
+    let wrong = wrong_division(
+        n,
+        wide(blocks),
+        weights.len(),
+        carried.len(),
+        top.len(),
+        block.len(),
+        block_loads.len(),
+    )
+        | wrong_figures(
+            n,
+            m,
+            edge_blocks.len(),
+            reach.len(),
+            block_count.len(),
+            compared_parents.len(),
+            compared_weights.len(),
+        )
+        | wrong_work(n, n + m, ends.len(), jump.len(), lower.len())
+        | (edges.len() % 2 != 0);
+    let code = early_refusal(parents, weights, bound, blocks, edges, wrong);
+    if code != 0 {
+        return ReportAnswer::Refused(code);
+    }
+    if !comparing::compare(
+        parents,
+        weights,
+        edges,
+        compared_parents,
+        compared_weights,
+        ends,
+        jump,
+        lower,
+    ) {
+        return ReportAnswer::Refused(23);
+    }
+    write_report(
+        parents,
+        weights,
+        bound,
+        edges,
+        carried,
+        top,
+        block,
+        block_loads,
+        edge_blocks,
+        reach,
+        block_count,
+        ends,
+        lower,
+    )
+}
