@@ -51,12 +51,14 @@ static void *room(size_t count, size_t size)
 static struct tables make_tables(size_t n, size_t m)
 {
     return (struct tables){room(n, 4), room(n, 4), room(n, 4), room(n, 4), room(n + (m > n ? m : n), 4), room(n, 4), room(n, 4),
-                           room(2 * m, 4), room(n + 1, sizeof(int)), room(m, sizeof(int)), room(8 * n, 1)};
+                           room(2 * m, 4), room(n + 1, sizeof(int)), room(m, sizeof(int)), room(8 * n, 1),
+                           room(n, 4), room(n, 4), room(n, 4), room(MAX_BLOCKS, 4)};
 }
 
 static void free_tables(struct tables *t)
 {
-    void *all[] = {t->parents, t->weights, t->ends, t->jump, t->lower, t->parents2, t->weights2, t->ranks, t->start, t->row, t->bytes};
+    void *all[] = {t->parents, t->weights, t->ends,  t->jump,    t->lower, t->parents2, t->weights2,   t->ranks,
+                   t->start,   t->row,     t->bytes, t->carried, t->top,   t->block,    t->block_loads};
     for (size_t i = 0; i < sizeof all / sizeof *all; i++)
         free(all[i]);
 }
@@ -93,6 +95,23 @@ static void read(struct tables *t, size_t n)
     must(niqastul_read(t->parents, n, t->weights, n, t->bytes, 8 * n) == 0, "read refused");
 }
 
+static void divide(struct tables *t, size_t n, uint32_t limit, uint32_t blocks)
+{
+    must(niqastul_divide(t->parents, n, t->weights, n, limit, blocks, t->carried, n, t->top, n, t->block, n, t->block_loads, blocks) == 0,
+         "divide refused");
+}
+
+/* A limit of a quarter of a block's even share, so that the groups can be packed evenly, or the largest weight. */
+static uint32_t limit_for(uint32_t blocks, const uint32_t *weights, size_t n)
+{
+    uint64_t total = 0, limit = 1;
+    for (size_t x = 0; x < n; x++) {
+        total += weights[x];
+        limit = weights[x] > limit ? weights[x] : limit;
+    }
+    return (uint32_t)(total / (4 * blocks) > limit ? total / (4 * blocks) : limit);
+}
+
 /* One pass over a net's tables: the least that a call which checks its net can take. */
 static uint64_t pass(const uint32_t *parents, const uint32_t *weights, size_t n)
 {
@@ -119,6 +138,8 @@ static void measure(const char *family, const struct net *net)
     int *parents = NULL;
     double grow, peer, triplets, plain, added, one_pass, joined, plain_joined, relabelled, plain_relabelled;
     double saved, plain_saved, was_read, plain_was_read;
+    static const uint32_t blocks[] = {16, MAX_BLOCKS};
+    double divided[] = {1e300, 1e300}, plain_divided[] = {1e300, 1e300};
     grow = peer = triplets = plain = added = one_pass = joined = plain_joined = relabelled = plain_relabelled = 1e300;
     saved = plain_saved = was_read = plain_was_read = 1e300;
 
@@ -154,6 +175,15 @@ static void measure(const char *family, const struct net *net)
         TIME(was_read, memset(t.parents, 1, 4 * n), read(&t, n));
         must(!memcmp(parents, t.parents, 4 * n), "what was saved is not what is read");
 
+        for (int k = 0; k < 2; k++) {
+            uint32_t limit = limit_for(blocks[k], t.weights, n);
+            TIME(plain_divided[k], , plain_divide(n, limit, blocks[k], &t));
+            memcpy(t.parents2, t.block, 4 * n), memcpy(t.weights2, t.block_loads, 4 * blocks[k]);
+            TIME(divided[k], memset(t.block, 1, 4 * n), divide(&t, n, limit, blocks[k]));
+            must(!memcmp(t.parents2, t.block, 4 * n) && !memcmp(t.weights2, t.block_loads, 4 * blocks[k]),
+                 "the library and plain C disagree on dividing");
+        }
+
         TIME(plain_relabelled, , plain_relabel(net, net->order, t.ranks, t.ends));
         TIME(relabelled, , relabel(net, &t));
     }
@@ -169,6 +199,10 @@ static void measure(const char *family, const struct net *net)
     printf("\tniqastul\t%.4f\tplain C\t%.4f\n", saved, plain_saved);
     row("read", family, net);
     printf("\tniqastul\t%.4f\tplain C\t%.4f\n", was_read, plain_was_read);
+    for (int k = 0; k < 2; k++) {
+        row(k ? "divide 1000" : "divide 16", family, net);
+        printf("\tniqastul\t%.4f\tplain C\t%.4f\tone pass\t%.4f\n", divided[k], plain_divided[k], one_pass);
+    }
     fflush(stdout);
     free(first), free(first_weights), free(second), free(second_weights), free(most), free(most_weights), free(parents);
     free_tables(&t);

@@ -4,6 +4,8 @@
 
 #include "nets.h"
 
+enum { MAX_BLOCKS = 1000 };
+
 /* Tables for all that is measured on one net, made once and written before they are measured. */
 struct tables {
     uint32_t *parents, *weights, *ends, *jump, *lower; /* the library's, with lower of n + max(n, edges) entries */
@@ -11,6 +13,8 @@ struct tables {
     uint32_t *ranks;                                   /* as long as the list */
     int *start, *row;                                  /* compressed columns */
     uint8_t *bytes;                                    /* 8 to a vertex */
+    uint32_t *carried, *top, *block;                   /* of a division */
+    uint32_t *block_loads;                             /* MAX_BLOCKS entries */
 };
 
 /* SuiteSparse: compressed columns of the upper triangle from the list, then cs_etree. The columns are counted and filled here, into
@@ -26,5 +30,7 @@ void plain_join(size_t n, struct tables *t);
 void plain_relabel(const struct net *net, const uint32_t *order, uint32_t *out, uint32_t *inverse);
 void plain_save(size_t n, const struct tables *t);
 void plain_read(size_t n, struct tables *t);
+/* Divides the net in parents and weights: children sorted by what they carry where some must be cut, blocks in a heap. */
+void plain_divide(size_t n, uint32_t limit, uint32_t blocks, struct tables *t);
 
 #endif

@@ -13,13 +13,16 @@ MEASURED = {
     "relabel": ("Relabelling", "relabel", "plain C"),
     "save": ("Saving", "save", "plain C"),
     "read": ("Reading", "read", "plain C"),
+    "divide 16": ("Dividing into 16 blocks", "divide-16", "plain C"),
+    "divide 1000": ("Dividing into 1,000 blocks", "divide-1000", "plain C"),
 }
 
 PEERS = """Milliseconds of processor time, the best of 15 rounds in each of which every contender runs once. `niqastul` is the whole public
 call, with its refusals, weights and cleared work tables. `SuiteSparse` builds compressed columns from the edge list into tables that
 exist already and calls CXSparse's `cs_etree`; `cs_compress` goes through its triplet form. Neither checks its input or counts
 weights. `plain C` is the bare algorithm of the library, compiled by gcc -O3. `one pass` reads the net's two tables once. SuiteSparse
-can neither add nor join: its time there is that of the whole net grown anew. All must come to the same parents.
+can neither add nor join: its time there is that of the whole net grown anew. All must come to the same parents. Dividing is measured
+with a limit of a quarter of a block's even share of the total, or the largest weight.
 """
 
 

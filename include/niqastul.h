@@ -18,7 +18,7 @@
  *   - each pointer leads to as many entries as its length says, readable, and writable where it is not const;
  *   - a table that is not const overlaps no other table of the same call;
  *   - no other thread writes a table while a call reads it, or reads or writes a table that the call may write.
- * The pointer of a table of length 0 is not followed.
+ * The pointer of a table of length 0 is not followed. A cell, lent as a pointer alone, is a table of one entry.
  */
 #ifndef NIQASTUL_H
 #define NIQASTUL_H
@@ -33,6 +33,8 @@ extern "C" {
 #define NIQASTUL_ABSENT UINT32_C(0xFFFFFFFF) /* the parent of a vertex that has none */
 #define NIQASTUL_MAX_VERTICES 1000000
 #define NIQASTUL_MAX_TOTAL 16000000 /* of the weights of a net */
+#define NIQASTUL_MAX_LIMIT 16000000 /* of the weight that a group may carry */
+#define NIQASTUL_MAX_BLOCKS 1000
 
 /* The answers, in the order in which they are decided: where several refusals apply, the one that stands first here is given. */
 enum niqastul_answer {
@@ -126,6 +128,62 @@ static inline size_t niqastul_bytes(size_t parents_length)
 {
     return 8 * parents_length;
 }
+
+/* DIVIDE a net into groups that carry at most a limit, 1 to NIQASTUL_MAX_LIMIT, and pack the groups into blocks, 1 to
+ * NIQASTUL_MAX_BLOCKS. A vertex carries its weight and what its children carry that are not cut off; while that is above the
+ * limit, the child that carries most is cut off, of equals the lowest. A group is what stays connected, its top its highest
+ * vertex. Groups go by rising top into the block with the least load so far, of equals the lowest. No block then has more than
+ * (total + (blocks - 1) * limit) / blocks.
+ *   reads   parents [n], weights [n]
+ *   writes  carried [n]        what each vertex carries; at a top, the weight of its group
+ *           top     [n]        the top of each vertex's group; a vertex that is its own top and has a parent is cut off from it
+ *           block   [n]        the block of each vertex, from 0
+ *           block_loads [blocks]      the load of each block
+ *   refused 1, 2 (block_loads against the number of blocks as given), 8, 30, 22 */
+uint32_t niqastul_divide(const uint32_t *parents, size_t parents_length,
+                         const uint32_t *weights, size_t weights_length,
+                         uint32_t limit,
+                         uint32_t blocks,
+                         uint32_t *carried, size_t carried_length,
+                         uint32_t *top, size_t top_length,
+                         uint32_t *block, size_t block_length,
+                         uint32_t *block_loads, size_t block_loads_length);
+
+/* REPORT what a division costs: divides a net as niqastul_divide does and, given the net's own edges in any order, writes what the
+ * blocks have to tell each other. An edge belongs to the block of its lower end.
+ *   reads   parents [n], weights [n]
+ *           edges   [m]        in ranks
+ *   writes  carried [n], top [n], block [n], block_loads [blocks]      as niqastul_divide
+ *           edge_blocks [m / 2]       the block of each edge
+ *           reach   [n]        the number of vertices above a vertex that have an edge to it or to a vertex that it is above
+ *           block_count [n]    the number of different blocks among the edges of a vertex
+ *           compared_parents [n], compared_weights [n]       end holding the net of the edges
+ *           ends [n], jump [n], lower [niqastul_add_lower(n, m)]      work; end as zeros
+ *           *bound             the sum of the reaches of the vertices that are cut off
+ *           *volume            the sum of (block_count - 1) over the vertices with an edge, never above the bound
+ *   refused 1, 2 (block_loads against the number of blocks as given), 8, 30 (of the net), 4 or 5 at the first faulty edge,
+ *           20 (more than NIQASTUL_MAX_TOTAL edges), 22, 23
+ * The exception: refused with 23, it leaves the net of the edges in compared_parents and compared_weights, and zeros in the work
+ * tables. */
+uint32_t niqastul_report(const uint32_t *parents, size_t parents_length,
+                         const uint32_t *weights, size_t weights_length,
+                         uint32_t limit,
+                         uint32_t blocks,
+                         const uint32_t *edges, size_t edges_length,
+                         uint32_t *carried, size_t carried_length,
+                         uint32_t *top, size_t top_length,
+                         uint32_t *block, size_t block_length,
+                         uint32_t *block_loads, size_t block_loads_length,
+                         uint32_t *edge_blocks, size_t edge_blocks_length,
+                         uint32_t *reach, size_t reach_length,
+                         uint32_t *block_count, size_t block_count_length,
+                         uint32_t *compared_parents, size_t compared_parents_length,
+                         uint32_t *compared_weights, size_t compared_weights_length,
+                         uint32_t *ends, size_t ends_length,
+                         uint32_t *jump, size_t jump_length,
+                         uint32_t *lower, size_t lower_length,
+                         uint64_t *bound,
+                         uint64_t *volume);
 
 #ifdef __cplusplus
 }

@@ -48,7 +48,7 @@ def divide(rng, n):
     k = rng.randrange(1, 5)
     tables = {name: nets.garbage(rng, n) for name in ("carried", "top", "block")}
     limit = max(2, max(weights)) + rng.randrange(3)
-    return {"parents": parents, "weights": weights, "limit": limit, "blocks": k, "block_weights": nets.garbage(rng, k)} | tables
+    return {"parents": parents, "weights": weights, "limit": limit, "blocks": k, "block_loads": nets.garbage(rng, k)} | tables
 
 
 def report(rng, n):
@@ -56,7 +56,8 @@ def report(rng, n):
     ties, given["parents"], given["weights"] = a_net(rng, n)
     given["limit"] = max(2, max(given["weights"])) + rng.randrange(3)
     given |= {"edges": nets.flat(ties), "edge_blocks": nets.garbage(rng, len(ties))}
-    return given | {name: nets.garbage(rng, n) for name in ("reach", "block_counts", "compared_parents", "compared_weights")}
+    given |= {"bound": [rng.getrandbits(64)], "volume": [rng.getrandbits(64)]}
+    return given | {name: nets.garbage(rng, n) for name in ("reach", "block_count", "compared_parents", "compared_weights")}
 
 
 MAKERS = {maker.__name__: maker for maker in (relabel, start, add, join, save, read, divide, report)}
@@ -122,7 +123,7 @@ def lengths(name):
     """Every table a little too long, too short or empty, but for those whose length is n or has a number of its own."""
     call = PRESENT[name]
     for table, kind in call.kinds.items():
-        if kind in "#@" and kind or (name, table) in (("read", "bytes"), (name, "parents"), (name, "order"), (name, "edges")):
+        if kind in ("#", "@") or (name, table) in (("read", "bytes"), (name, "parents"), (name, "order"), (name, "edges")):
             continue
         if table == "other_parents":
             continue
@@ -167,7 +168,7 @@ def faults(name):
         yield 8, "limit too large", set_number("limit", calls.MAX_LIMIT + 1)
         yield 8, "limit far out", set_number("limit", 0xFFFFFFFF)
         for k in (0, calls.MAX_BLOCKS + 1):
-            yield 8, f"{k} blocks", lambda g, k=k: (set_number("blocks", k)(g), resize("block_weights", k - len(g["block_weights"]))(g))
+            yield 8, f"{k} blocks", lambda g, k=k: (set_number("blocks", k)(g), resize("block_loads", k - len(g["block_loads"]))(g))
         yield 22, "a weight above the limit", put("weights", 1, lambda g: g["limit"] + 1)
     if name == "report":
         yield 23, "another weight", put("weights", -1, 1)

@@ -13,31 +13,32 @@ from oracle import calls
 ROOT = pathlib.Path(__file__).resolve().parent.parent
 LIBRARY = ctypes.CDLL(str(ROOT / "target" / "lib" / "libniqastul.so"))
 
-GUARD = {"I": [0xA5A5A5A5] * 4, "B": [0xA5] * 4, "Q": [0x5A5A5A5A5A5A5A5A]}
+GUARD = {"I": [0xA5A5A5A5] * 4, "B": [0xA5] * 4, "Q": [0x5A5A5A5A5A5A5A5A] * 2}
 
-# what a cell holds before
-CELL = [7]
+# tables whose entries are not of 32 bits
+CODES = {"bytes": "B", "bound": "Q", "volume": "Q"}
 
 
 class Call:
     """`parameters` names them in their order: `name` is a table that is read, `name!` one that is written, `name*` a work table,
-    `name#` a number and `name@` a cell of 64 bits for a value of the answer; the table `bytes` is one of bytes. `judge` takes the
-    inputs by name and answers the number and the written tables and cells by name. `work` answers the work tables as they end."""
+    `name#` a number and `name@` a cell, lent as a table of one entry without its length. `judge` takes the inputs by name and answers the number and the written tables by name. `work` answers the work
+    tables as they end."""
 
     def __init__(self, name, parameters, judge, work=lambda given: {}):
         self.name, self.symbol, self.judge, self.work_end = name, "niqastul_" + name, judge, work
         self.kinds = dict(re.fullmatch(r"(\w+)(\W?)", word).groups() for word in parameters.split())
 
-    def named(self, kind):
-        return [name for name, its in self.kinds.items() if its == kind]
+    def named(self, *kinds):
+        return [name for name, its in self.kinds.items() if its in kinds]
 
     def expected(self, given):
-        """The number, and every table and cell that is lent to be written, by name. A work table of the wrong length is 2."""
+        """The number, and every table that is lent to be written, by name. A work table of the wrong length is 2; 23 is found by
+        growing a net, so that the work tables end as if accepted."""
         number, after = self.judge(given)
         ends = self.work_end(given)
         if number != 1 and any(len(given[name]) != len(ends[name]) for name in ends):
             return 2, {}
-        return number, after if number else after | ends
+        return number, after | ends if number in (0, 23) else after
 
     def run(self, checks, given, *context):
         """Calls the library with copies of the tables and compares; answers the number and the tables afterwards."""
@@ -47,18 +48,15 @@ class Call:
             if kind == "#":
                 words.append(ctypes.c_uint32(given[name]))
                 continue
-            lent[name] = guarded(self.code(name), given.get(name, CELL))
+            lent[name] = guarded(CODES.get(name, "I"), given[name])
             start = lent[name].buffer_info()[0] + lent[name].itemsize * len(GUARD[lent[name].typecode])
             words.append(ctypes.c_void_p(start))
             if kind != "@":
                 words.append(ctypes.c_size_t(len(given[name])))
         checks.same(getattr(LIBRARY, self.symbol)(*words), number, self.name, given, *context)
         for name, table in lent.items():
-            checks.same(table, guarded(table.typecode, after.get(name, given.get(name, CELL))), self.name, name, given, *context)
+            checks.same(table, guarded(table.typecode, after.get(name, given[name])), self.name, name, given, *context)
         return number, {name: unguarded(table) for name, table in lent.items()}
-
-    def code(self, name):
-        return "Q" if self.kinds[name] == "@" else "B" if name == "bytes" else "I"
 
 
 def guarded(code, table):
@@ -82,32 +80,37 @@ def inverse_of(given):
     return {"inverse": [rank.get(vertex, 0) for vertex in range(len(order))]}
 
 
-def call(name, parameters, work=lambda given: {}):
+def report(*given):
+    """The oracle's report, its bound and volume written to their cells where it is accepted."""
+    *given, bound, volume = given
+    number, *after, its_bound, its_volume = calls.report(*given)
+    return number, *after, bound if number else [its_bound], volume if number else [its_volume]
+
+
+def call(name, parameters, oracle, work=lambda given: {}):
     """A call whose oracle has the same tables in the same order, less the work tables."""
 
     def judge(given):
-        number, *after = oracle(*(given[name] for name, kind in its.kinds.items() if kind in ("", "#", "!")))
-        tables = its.named("!")
-        values = {name: [value] for name, value in zip(its.named("@"), after[len(tables):]) if number == 0}
-        return number, dict(zip(tables, after)) | values
+        number, *after = oracle(*(given[table] for table, kind in its.kinds.items() if kind != "*"))
+        return number, dict(zip(its.named("!", "@"), after))
 
-    oracle = getattr(calls, {"relabel": "translate"}.get(name, name))
     its = Call(name, parameters, judge, work)
     return its
 
 
 CALLS = [
-    call("relabel", "order edges out! inverse*", inverse_of),
-    call("start", "parents! weights!"),
-    call("add", "parents! weights! edges ends* jump* lower*",
+    call("relabel", "order edges out! inverse*", calls.translate, inverse_of),
+    call("start", "parents! weights!", calls.start),
+    call("add", "parents! weights! edges ends* jump* lower*", calls.add,
          lambda g: work_of(g, len(g["parents"]) + len(g["edges"]) // 2)),
-    call("join", "parents! weights! other_parents other_weights ends* jump* lower*",
+    call("join", "parents! weights! other_parents other_weights ends* jump* lower*", calls.join,
          lambda g: work_of(g, len(g["parents"]) + len(g["other_parents"]))),
-    call("save", "parents weights bytes!"),
-    call("read", "parents! weights! bytes"),
-    call("divide", "parents weights limit# blocks# carried! top! block! block_weights!"),
-    call("report", "parents weights edges limit# blocks# carried! top! block! block_weights! edge_blocks! reach! block_counts! "
-         "compared_parents! compared_weights! bound@ volume@"),
+    call("save", "parents weights bytes!", calls.save),
+    call("read", "parents! weights! bytes", calls.read),
+    call("divide", "parents weights limit# blocks# carried! top! block! block_loads!", calls.divide),
+    call("report", "parents weights limit# blocks# edges carried! top! block! block_loads! edge_blocks! reach! block_count! "
+         "compared_parents! compared_weights! ends* jump* lower* bound@ volume@", report,
+         lambda g: work_of(g, len(g["parents"]) + len(g["edges"]) // 2)),
 ]
 
 # the calls that the library has

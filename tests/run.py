@@ -8,6 +8,7 @@ import test_interface
 import test_forest
 import test_refusals
 import test_histories
+import test_replay
 import test_division
 import test_blocks
 import test_limits

@@ -48,7 +48,7 @@ def divided(t):
         for limit in limits_of(rng, weights):
             given = inputs.accepted(rng, "divide", len(parents)) | {"parents": parents, "weights": weights, "limit": limit}
             k = rng.choice((1, 2, 3, 7, 1000))
-            given |= {"blocks": k, "block_weights": nets.garbage(rng, k)}
+            given |= {"blocks": k, "block_loads": nets.garbage(rng, k)}
             PRESENT["divide"].run(t, given, context)
 
 
@@ -65,7 +65,7 @@ def reported(t):
                 edges[-1] = (0, len(parents) - 1)
             given = inputs.accepted(rng, "report", len(parents)) | {"parents": parents, "weights": weights, "limit": limit}
             k = rng.choice((1, 2, 3, 7, 1000))
-            given |= {"blocks": k, "block_weights": nets.garbage(rng, k)}
+            given |= {"blocks": k, "block_loads": nets.garbage(rng, k)}
             given |= {"edges": nets.flat(edges), "edge_blocks": nets.garbage(rng, len(edges))}
             given |= {table: nets.garbage(rng, len(end)) for table, end in PRESENT["report"].work_end(given).items()}
             PRESENT["report"].run(t, given, context)

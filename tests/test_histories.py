@@ -62,7 +62,7 @@ class History:
         return flat
 
     def step(self):
-        name = self.rng.choice([name for name in ("start", "add", "add", "join", "join", "save", "read", "relabel", "divide") if name in PRESENT])
+        name = self.rng.choice([name for name in ("start", "add", "add", "join", "join", "save", "read", "relabel", "divide", "report") if name in PRESENT])
         net, other = self.rng.sample(NETS, 2)
         file = self.rng.choice(FILES)
         if name == "start":
@@ -83,12 +83,19 @@ class History:
         elif name == "read":
             accepted, _ = self.call(name, net, bytes=self.files[file])
             self.book.read(net, file, accepted)
-        elif name == "divide":
-            n, k = len(self.nets[net][0]), self.rng.randrange(4)
-            tables = {table: nets.garbage(self.rng, n) for table in ("carried", "top", "block")}
-            self.call(name, net, limit=self.rng.randrange(9), blocks=k, block_weights=nets.garbage(self.rng, k), **tables)
+        elif name in ("divide", "report"):
+            self.divide(name, net)
         else:
             PRESENT[name].run(self.t, inputs.accepted(self.rng, name, 4))
+
+    def divide(self, name, net):
+        """Divides a net, or reports on it with its own list if it has one."""
+        n, k, ties = len(self.nets[net][0]), self.rng.randrange(4), self.book.nets.get(net)
+        flat = self.edges(net) if ties is None else nets.flat(ties)
+        others = {"limit": self.rng.randrange(9), "blocks": k, "block_loads": nets.garbage(self.rng, k)}
+        others |= {"edges": flat, "edge_blocks": nets.garbage(self.rng, len(flat) // 2), "bound": [7], "volume": [7]}
+        others |= {table: nets.garbage(self.rng, n) for table in PRESENT[name].named("!") if table not in others}
+        self.call(name, net, **others)
 
     def claim(self):
         """What the book says of every net and file with a list."""
@@ -113,7 +120,7 @@ class History:
             self.t.true(volume <= bound, net, ties, limit, k)
         if "report" in PRESENT:
             given = inputs.accepted(self.rng, "report", n) | {"parents": net[0], "weights": net[1], "limit": limit, "blocks": k}
-            given |= {"edges": nets.flat(ties), "edge_blocks": [7] * len(ties), "block_weights": [7] * k}
+            given |= {"edges": nets.flat(ties), "edge_blocks": [7] * len(ties), "block_loads": [7] * k}
             given |= {table: nets.garbage(self.rng, len(end)) for table, end in PRESENT["report"].work_end(given).items()}
             number, _ = PRESENT["report"].run(self.t, given)
             self.t.true(number in (0, 22), number, net, ties)

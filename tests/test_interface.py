@@ -6,7 +6,7 @@ import subprocess
 import tempfile
 
 from harness import test
-from library import CALLS, LIBRARY, PRESENT, ROOT
+from library import CALLS, CODES, LIBRARY, PRESENT, ROOT
 from oracle import calls
 from oracle.forest import ABSENT
 
@@ -26,11 +26,11 @@ def calls_agree(t):
 
 
 def declaration(call, name):
-    kind, type_ = call.kinds[name], "uint8_t" if name == "bytes" else "uint32_t"
+    kind, type_ = call.kinds[name], {"I": "uint32_t", "B": "uint8_t", "Q": "uint64_t"}[CODES.get(name, "I")]
     if kind == "#":
         return f"uint32_t {name}"
     if kind == "@":
-        return f"uint64_t *{name}"
+        return f"{type_} *{name}"
     return f"{'' if kind else 'const '}{type_} *{name}, size_t {name}_length"
 
 
@@ -39,15 +39,16 @@ def constants(t):
     """The header's numbers, as a C program prints them."""
     source = """#include <stdio.h>
     #include "niqastul.h"
-    int main(void) { printf("%u %u %u %zu %zu %zu", NIQASTUL_ABSENT, NIQASTUL_MAX_VERTICES, NIQASTUL_MAX_TOTAL,
-        niqastul_add_lower(5, 7), niqastul_join_lower(5, 7), niqastul_bytes(5)); }"""
+    int main(void) { printf("%u %u %u %u %u %zu %zu %zu", NIQASTUL_ABSENT, NIQASTUL_MAX_VERTICES, NIQASTUL_MAX_TOTAL, NIQASTUL_MAX_LIMIT,
+        NIQASTUL_MAX_BLOCKS, niqastul_add_lower(5, 7), niqastul_join_lower(5, 7), niqastul_bytes(5)); }"""
+    numbers = (ABSENT, calls.MAX_MARKS, calls.MAX_TOTAL, calls.MAX_LIMIT, calls.MAX_BLOCKS, 8, 12, 40)
     for compiler, language in (("gcc -std=c99", "c"), ("gcc -std=c11", "c"), ("g++ -std=c++98", "c++"), ("g++ -std=c++17", "c++")):
         with tempfile.TemporaryDirectory() as folder:
             program = folder + "/constants"
             command = [*compiler.split(), "-Wall", "-Wextra", "-Werror", "-I", str(ROOT / "include"), "-x", language, "-", "-o", program]
             subprocess.run(command, input=source, text=True, check=True)
             printed = subprocess.run([program], capture_output=True, text=True, check=True).stdout
-        t.same(printed.split(), [str(x) for x in (ABSENT, calls.MAX_MARKS, calls.MAX_TOTAL, 8, 12, 40)], compiler)
+        t.same(printed.split(), [str(x) for x in numbers], compiler)
     answers = [int(number) for number in re.findall(r"^    NIQASTUL_\w+ = (\d+)", HEADER, flags=re.M)]
     t.same(answers, [0] + calls.ORDER, "the header lists the answers in the order of decision")
     t.true(len(CALLS) >= len(PRESENT))

@@ -4,7 +4,7 @@ import ctypes
 from array import array
 
 from harness import test
-from library import LIBRARY, PRESENT
+from library import CODES, LIBRARY, PRESENT
 from oracle import calls
 from oracle.forest import ABSENT
 
@@ -82,7 +82,7 @@ def one_vertex_too_many(t):
     one = array("I", [ABSENT])
     for name, call in PRESENT.items():
         for length in (MOST + 1, 1):
-            tables = {table: array("B" if table == "bytes" else "I", [5] * length) for table, kind in call.kinds.items() if kind != "#"}
+            tables = {table: array(CODES.get(table, "I"), [5] * length) for table, kind in call.kinds.items() if kind != "#"}
             tables |= {table: 1 for table in call.named("#")}
             tables["order" if name == "relabel" else "parents"] = many[:]
             t.same(run(name, **tables), 1, name)
@@ -128,28 +128,102 @@ def longest_list(t):
     t.same(list(out[-4:]), [1, 0, 2, 0])
 
 
-@test(at_least=6, given="divide" in PRESENT)
+def divide(t, net, limit, blocks, *context):
+    """Divides a net that is to be accepted; answers what was written, by name."""
+    n = len(net[0])
+    tables = {"carried": zeros(n), "top": zeros(n), "block": zeros(n), "block_loads": zeros(blocks)}
+    t.same(run("divide", parents=net[0], weights=net[1], limit=limit, blocks=blocks, **tables), 0, *context)
+    return tables
+
+
+def a_star():
+    """999,999 vertices under the last, each of weight 1."""
+    last = MOST - 1
+    edges = array("I", [end for x in range(last) for end in (x, last)])
+    return edges, (array("I", [last]) * last + array("I", [ABSENT]), array("I", [1]) * last + zeros(1))
+
+
+@test(at_least=5, given="divide" in PRESENT)
 def widest_star(t):
-    """A star of 999,999 vertices under one, each of weight 1, and a limit of 3: all but the last three are cut, the lowest first."""
+    """With a limit of 3 all but the last three leaves are cut, the lowest first."""
     limit, last = 3, MOST - 1
-    star = array("I", [end for x in range(last) for end in (x, last)])
-    net = grown(t, MOST, star, array("I", [last]) * last + array("I", [ABSENT]))
-    carried, top, block, block_weights = zeros(MOST), zeros(MOST), zeros(MOST), zeros(2)
-    t.same(run("divide", parents=net[0], weights=net[1], limit=limit, blocks=2, carried=carried, top=top, block=block,
-               block_weights=block_weights), 0)
     cut = last - limit
-    t.true(carried == array("I", [1]) * last + array("I", [limit]), "carried")
-    t.true(top == array("I", range(cut)) + array("I", [last]) * (limit + 1), "tops")
-    t.true(block == array("I", [0, 1]) * (cut // 2) + zeros(limit + 1), "blocks")
-    t.same(list(block_weights), [cut // 2 + limit, cut // 2])
+    after = divide(t, a_star()[1], limit, 2)
+    t.true(after["carried"] == array("I", [1]) * last + array("I", [limit]), "carried")
+    t.true(after["top"] == array("I", range(cut)) + array("I", [last]) * (limit + 1), "tops")
+    t.true(after["block"] == array("I", [0, 1]) * (cut // 2) + zeros(limit + 1), "blocks")
+    t.same(list(after["block_loads"]), [cut // 2 + limit, cut // 2])
 
 
-@test(at_least=1, given="report" in PRESENT)
+@test(at_least=8, given="divide" in PRESENT)
+def longest_path(t):
+    """A path of 1,000,000 vertices and a limit of 3: every third vertex is cut, and the last, which weighs nothing, goes with the
+    three before it. The groups, of 3 each, go round the 1,000 blocks; one block takes them all."""
+    groups, last = (MOST - 1) // 3, MOST - 1
+    path = array("I", range(1, MOST)) + array("I", [ABSENT]), array("I", [1]) * last + zeros(1)
+    tops = [top for group in range(groups - 1) for top in [3 * group + 2] * 3] + [last] * 4
+    blocks = [group % 1000 for group in range(groups) for _ in range(3)]
+    after = divide(t, path, 3, 1000)
+    t.true(after["carried"] == array("I", [1, 2, 3]) * groups + array("I", [3]), "carried")
+    t.true(after["top"] == array("I", tops), "tops")
+    t.true(after["block"] == array("I", blocks + blocks[-1:]), "blocks")
+    t.same(list(after["block_loads"]), [3 * (groups // 1000 + (block < groups % 1000)) for block in range(1000)])
+    after = divide(t, path, calls.MAX_LIMIT, 1, "the largest limit")
+    t.true(after["carried"] == array("I", range(1, MOST)) + array("I", [last]), "all is carried to the top")
+    t.same((set(after["top"]), set(after["block"]), list(after["block_loads"])), ({last}, {0}, [last]))
+
+
+def figures(after):
+    return [after["bound"][0], after["volume"][0]]
+
+
+def report(net, edges, limit, blocks):
+    """Reports on a net with new tables; answers the number and the tables by name."""
+    n = len(net[0])
+    of_n = ("carried", "top", "block", "reach", "block_count", "compared_parents", "compared_weights")
+    tables = {table: zeros(n) for table in of_n}
+    tables |= {"block_loads": zeros(blocks), "edge_blocks": zeros(len(edges) // 2), "bound": array("Q", [7]), "volume": array("Q", [7])}
+    return run("report", parents=net[0], weights=net[1], limit=limit, blocks=blocks, edges=edges, **tables), tables
+
+
+@test(at_least=8, given="report" in PRESENT)
+def reported_star(t):
+    """A report on 1,000,000 vertices: each cut leaf reaches the top, which has edges of both blocks."""
+    edges, net = a_star()
+    limit, last = 3, MOST - 1
+    number, after = report(net, edges, limit, 2)
+    t.same(number, 0)
+    t.same(figures(after), [last - limit, 1], "bound and volume")
+    t.true(after["edge_blocks"] == after["block"][:last], "an edge belongs to the block of its lower end")
+    t.true(after["reach"] == net[1], "reaches")
+    t.true(after["block_count"] == array("I", [1]) * last + array("I", [2]), "block counts")
+    t.true((after["compared_parents"], after["compared_weights"]) == net, "the net of the edges")
+    edges[0], edges[-2] = last - 1, 0
+    number, after = report(net, edges, limit, 2)
+    t.same((number, figures(after)), (0, [last - limit, 1]), "two edges exchanged")
+    edges[0] = 1
+    t.same(report(net, edges, limit, 2)[0], 23, "one edge is another")
+
+
+@test(at_least=10, given="report" in PRESENT)
 def longest_report(t):
-    """A reported list of 16,000,001 edges is 20."""
-    most = calls.MAX_TIES + 1
-    net = a_net(3, 0, 2)
-    tables = {table: zeros(3) for table in ("carried", "top", "block", "reach", "block_counts", "compared_parents", "compared_weights")}
-    cells = {"bound": array("Q", [7]), "volume": array("Q", [7])}
-    t.same(run("report", parents=net[0], weights=net[1], edges=array("I", [0, 2]) * most, limit=9, blocks=1, block_weights=zeros(1),
-               edge_blocks=zeros(most), **tables, **cells), 20)
+    """A reported list of 16,000,000 edges is accepted; one more is 20, unless an edge of it is faulty."""
+    half = calls.MAX_TIES // 2
+    net = array("I", [2, 2, ABSENT]), array("I", [half, half, 0])
+    edges = array("I", [0, 2]) * half + array("I", [2, 1]) * half
+    number, after = report(net, edges, half, 2)
+    t.same(number, 0)
+    t.same(figures(after), [1, 1], "bound and volume")
+    t.true(after["edge_blocks"] == zeros(half) + array("I", [1]) * half, "edge blocks")
+    t.same([list(after[name]) for name in ("reach", "block_count", "block_loads")], [[1, 1, 0], [1, 1, 2], [half, half]])
+    t.true((after["compared_parents"], after["compared_weights"]) == net, "the net of the edges")
+    edges += array("I", [1, 2])
+    number, after = report(net, edges, half, 2)
+    t.same((number, figures(after)), (20, [7, 7]))
+    t.same([list(after[name]) for name in ("block_count", "compared_parents")], [[0, 0, 0], [0, 0, 0]], "as they were")
+    edges[-1] = 1
+    t.same(report(net, edges, half, 2)[0], 5, "the last edge is a loop")
+    edges[-1] = 3
+    t.same(report(net, edges, half, 2)[0], 4, "the last edge names n")
+    edges[-1] = 2
+    t.same(report(net, edges, half - 1, 2)[0], 20, "20 before 22")

@@ -99,7 +99,7 @@ def damaged_nets(t):
 
 def tiny(rng, name, n):
     """An input of n vertices without edges."""
-    given = {table: [0] * n for table, kind in PRESENT[name].kinds.items() if kind != "@"} | {"edges": [], "edge_blocks": []}
+    given = {table: [0] * n for table in PRESENT[name].kinds} | {"edges": [], "edge_blocks": [], "bound": [0], "volume": [0]}
     given |= {"parents": [ABSENT] * n, "other_parents": [ABSENT] * n, "limit": 3, "blocks": n, "bytes": [1] * (8 * n)}
     return given | {table: [9] * len(end) for table, end in PRESENT[name].work_end(given).items()}
 
@@ -112,8 +112,7 @@ def random_tables(t):
         for name, call in PRESENT.items():
             given = {}
             for table, kind in call.kinds.items():
-                if kind == "@":
-                    continue
                 values = (0, 1, 2, 3, 4, ABSENT) if table != "bytes" else (0, 1, 2, 255)
-                given[table] = rng.choice(values) if kind == "#" else rng.choices(values, k=rng.choice((0, 2, 2, 2, 3, 3, 4)))
+                length = 1 if kind == "@" else rng.choice((0, 2, 2, 2, 3, 3, 4))
+                given[table] = rng.choice(values) if kind == "#" else rng.choices(values, k=length)
             call.run(t, copy.deepcopy(given), seed)

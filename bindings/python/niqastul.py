@@ -5,6 +5,8 @@
     net.join(other)                     add all edges of another net
     net.save(), net.read(data)          the net as bytes, and back
     net.parents, net.weights            the elimination forest, ABSENT for no parent; the edges by their lower end
+    net.divide(limit, blocks)           the forest cut into groups that carry at most the limit, and packed into blocks
+    net.report(limit, blocks, edges)    that, and what it costs: block counts, bound and volume of communication
     relabel(order, edges)               an edge list in vertex numbers, as ranks in an order
 
 A table is a list of integers or an array("I"), which is used without a copy. A call that is refused raises Refused, with every table
@@ -12,12 +14,15 @@ as it was. Calls let other threads run; they must leave the tables of a running 
 
 The library is the file that NIQASTUL_LIBRARY names, or that of this repository (make), or an installed one (make install)."""
 
+import collections
 import ctypes
 import os
 import pathlib
 from array import array
 
 ABSENT = 0xFFFFFFFF
+MAX_LIMIT = 16_000_000
+MAX_BLOCKS = 1_000
 
 REASONS = {
     1: "no vertex, or more than 1,000,000",
@@ -42,6 +47,15 @@ class Refused(ValueError):
     def __init__(self, number):
         super().__init__(f"refused {number}: {REASONS[number]}")
         self.number = number
+
+
+# A net divided: for each vertex what it carries (at a top, the weight of its group), the top of its group and its block; the load of
+# each block. A vertex that is its own top and has a parent is cut off from it.
+Division = collections.namedtuple("Division", "carried top block block_loads")
+
+# What a division costs: the block of each edge; for each vertex its reach and the number of different blocks among its edges; the sum
+# of the reaches of the vertices that are cut off, and the sum of (block count - 1), which is never above it.
+Report = collections.namedtuple("Report", "division edge_blocks reach block_count bound volume")
 
 
 class Net:
@@ -72,6 +86,23 @@ class Net:
         """Becomes the net that was saved, which has as many vertices."""
         call("read", self.parents, self.weights, bytearray(saved))
 
+    def divide(self, limit, blocks):
+        """Cuts the forest into groups that carry at most a limit, packs the groups into blocks, and answers a Division."""
+        n, limit, blocks = len(self.parents), within(limit, MAX_LIMIT), within(blocks, MAX_BLOCKS)
+        its = Division(zeros(n), zeros(n), zeros(n), zeros(blocks))
+        call("divide", self.parents, self.weights, limit, blocks, *its)
+        return its
+
+    def report(self, limit, blocks, edges):
+        """Divides, and reports what the division costs, given all edges of the net in any order."""
+        n, limit, blocks, edges = len(self.parents), within(limit, MAX_LIMIT), within(blocks, MAX_BLOCKS), table(edges)
+        m = len(edges) // 2
+        its = Division(zeros(n), zeros(n), zeros(n), zeros(blocks))
+        edge_blocks, reach, block_count, bound, volume = zeros(m), zeros(n), zeros(n), ctypes.c_uint64(), ctypes.c_uint64()
+        work = [zeros(length) for length in (n, n, n, n, n + m)]
+        call("report", self.parents, self.weights, limit, blocks, edges, *its, edge_blocks, reach, block_count, *work, bound, volume)
+        return Report(its, edge_blocks, reach, block_count, bound.value, volume.value)
+
 
 def relabel(order, edges):
     """An edge list in vertex numbers, as ranks in an order: the vertex order[r] has rank r."""
@@ -89,10 +120,23 @@ def zeros(length):
     return array("I", bytes(4 * length))
 
 
-def call(name, *tables):
-    """Lends tables to a call, and raises its refusal."""
-    lent = [word for entries in tables for word in (ctypes.byref(ctypes.c_char.from_buffer(entries)) if entries else None, ctypes.c_size_t(len(entries)))]
-    number = getattr(LIBRARY, "niqastul_" + name)(*lent)
+def within(number, most):
+    """A number from 1, or 0 if it is out of range: that is refused alike, and fits the word."""
+    return number if 0 < number <= most else 0
+
+
+def words(lent):
+    """What a number, a cell or a table is passed as."""
+    if isinstance(lent, int):
+        return [ctypes.c_uint32(lent)]
+    if isinstance(lent, ctypes.c_uint64):
+        return [ctypes.byref(lent)]
+    return [ctypes.byref(ctypes.c_char.from_buffer(lent)) if lent else None, ctypes.c_size_t(len(lent))]
+
+
+def call(name, *lent):
+    """Lends tables and numbers to a call, and raises its refusal."""
+    number = getattr(LIBRARY, "niqastul_" + name)(*(word for its in lent for word in words(its)))
     if number:
         raise Refused(number)
 

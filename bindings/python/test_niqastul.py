@@ -60,6 +60,36 @@ class Calls(unittest.TestCase):
     def test_relabel(self):
         self.assertEqual(list(relabel([3, 0, 1, 2], [3, 1, 0, 2])), [0, 2, 1, 3])
 
+    def test_divide(self):
+        """Document 01's whole case."""
+        its = net(6, relabel([3, 0, 1, 2, 4, 5], [3, 1, 3, 4, 0, 2, 0, 4, 1, 5, 1, 3]))
+        division = its.divide(4, 2)
+        self.assertEqual([list(part) for part in division], [[3, 2, 4, 2, 2, 2], [2, 5, 2, 5, 5, 5], [0, 1, 0, 1, 1, 1], [4, 2]])
+        self.assertEqual(list(its.divide(3, 1).top), [0, 5, 5, 5, 5, 5])
+        self.assertEqual(len(its.divide(4, 1000).block_loads), 1000)
+        self.refused(22, its.divide, 2, 2)
+        for limit in (-1, 0, 16_000_001, 2 ** 32 + 4):
+            self.refused(8, its.divide, limit, 2)
+        for blocks in (-1, 0, 1001, 2 ** 32 + 2):
+            self.refused(8, its.divide, 4, blocks)
+        its.parents[0] = 0
+        self.refused(30, its.divide, 4, 2)
+        its.weights.pop()
+        self.refused(2, its.divide, 4, 2)
+
+    def test_report(self):
+        """Document 01's whole case."""
+        edges = relabel([3, 0, 1, 2, 4, 5], [3, 1, 3, 4, 0, 2, 0, 4, 1, 5, 1, 3])
+        its = net(6, edges)
+        report = its.report(4, 2, edges)
+        self.assertEqual(report.division, its.divide(4, 2))
+        self.assertEqual([list(part) for part in report[1:4]], [[0, 0, 1, 1, 0, 0], [2, 2, 2, 1, 1, 0], [1, 1, 1, 1, 2, 1]])
+        self.assertEqual((report.bound, report.volume), (2, 1))
+        self.assertEqual(its.report(4, 1, list(edges)).volume, 0)
+        for number, arguments in ((2, (4, 2, edges[1:])), (8, (0, 2, edges)), (8, (4, 2 ** 32 + 2, edges)), (4, (4, 2, [0, 6])),
+                                  (5, (4, 2, [0, 0])), (22, (2, 2, edges)), (23, (4, 2, edges[2:]))):
+            self.refused(number, its.report, *arguments)
+
     def test_refusals(self):
         its = net(3, [0, 1])
         self.refused(1, Net, 0)

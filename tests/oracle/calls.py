@@ -284,7 +284,7 @@ def volume_of(block_counts):
     return sum(count - 1 for count in block_counts if count > 0)
 
 
-def report_refusal(parents, loads, flat, limit, k, tables):
+def report_refusal(parents, loads, limit, k, flat, tables):
     n = len(parents)
     carried, tops, blocks, block_loads, tie_blocks, reach, block_counts, parents2, loads2 = tables
     if bad_count(n):
@@ -310,10 +310,10 @@ def report_refusal(parents, loads, flat, limit, k, tables):
     return 0
 
 
-def report(parents, loads, flat, limit, k, *tables):
+def report(parents, loads, limit, k, flat, *tables):
     """The tables: carried load, top, block, block loads, tie blocks, reach, block count, and the two comparison tables. The answer
     has bound and volume behind them, None if refused."""
-    number = report_refusal(parents, loads, flat, limit, k, tables)
+    number = report_refusal(parents, loads, limit, k, flat, tables)
     n, ties = len(parents), ties_of(flat)
     if number == 23:
         return (23, *tables[:7], parents_of(n, ties), loads_of(n, ties), None, None)

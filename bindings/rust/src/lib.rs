@@ -1,7 +1,7 @@
 //! Elimination forests of graphs, grown, joined and divided by a proved library.
 //!
-//! A [`Net`] owns its tables and takes edges; [`relabel`] takes an edge list from vertex numbers to ranks. Below them, [`tables`]
-//! has the library's calls over slices that the caller lends, with no allocation. Every call is safe: the library checks all that
+//! A [`Net`] owns its tables, takes edges and is divided; [`relabel`] takes an edge list from vertex numbers to ranks. Below them,
+//! [`tables`] has the library's calls over slices that the caller lends, with no allocation. Every call is safe: the library checks all that
 //! its tables hold, and what is left, that a table to be written overlaps no other, is what `&mut` says.
 //!
 //! ```
@@ -9,6 +9,7 @@
 //! net.add(&[0, 1, 0, 2, 0, 3])?;
 //! assert_eq!(net.parents(), [1, 2, 3, niqastul::ABSENT]);
 //! assert_eq!(net.add(&[0, 4]), Err(niqastul::Refusal::BadVertex));
+//! assert_eq!(net.divide(3, 2)?.block, [0, 0, 0, 0]);
 //! # Ok::<(), niqastul::Refusal>(())
 //! ```
 
@@ -18,6 +19,9 @@ pub mod tables;
 
 /// The parent of a vertex that has none.
 pub const ABSENT: u32 = 0xFFFF_FFFF;
+
+/// The largest number of blocks.
+pub const MAX_BLOCKS: u32 = 1_000;
 
 /// Why a call was refused; its tables are as they were. Where several apply, the one that stands first here is given.
 #[derive(Clone, Copy, Debug, PartialEq, Eq, Hash)]
@@ -125,6 +129,88 @@ impl Net {
         let mut net = Net { parents: vec![0; vertices], weights: vec![0; vertices], ..Net::default() };
         tables::read(&mut net.parents, &mut net.weights, bytes)?;
         Ok(net)
+    }
+
+    /// Cuts the forest into groups of a weight at most `limit`, and packs the groups into blocks.
+    pub fn divide(&self, limit: u32, blocks: u32) -> Result<Division, Refusal> {
+        // no block is refused as too many are, and needs no table
+        let blocks = if blocks > MAX_BLOCKS { 0 } else { blocks };
+        let mut its = Division::sized(self.parents.len(), blocks);
+        tables::divide(
+            &self.parents,
+            &self.weights,
+            limit,
+            blocks,
+            &mut its.carried,
+            &mut its.top,
+            &mut its.block,
+            &mut its.block_loads,
+        )?;
+        Ok(its)
+    }
+
+    /// Divides, and reports what the division costs, given all edges of the net in any order.
+    pub fn report(&mut self, limit: u32, blocks: u32, edges: &[u32]) -> Result<Report, Refusal> {
+        let blocks = if blocks > MAX_BLOCKS { 0 } else { blocks };
+        let vertices = self.parents.len();
+        let zeros = || vec![0; vertices];
+        let mut its = Division::sized(vertices, blocks);
+        let (mut edge_blocks, mut reach, mut block_count) = (vec![0; edges.len() / 2], zeros(), zeros());
+        self.work.resize(vertices, edges.len() / 2);
+        let (bound, volume) = tables::report(
+            &self.parents,
+            &self.weights,
+            limit,
+            blocks,
+            edges,
+            &mut its.carried,
+            &mut its.top,
+            &mut its.block,
+            &mut its.block_loads,
+            &mut edge_blocks,
+            &mut reach,
+            &mut block_count,
+            &mut zeros(),
+            &mut zeros(),
+            &mut self.work,
+        )?;
+        Ok(Report { division: its, edge_blocks, reach, block_count, bound, volume })
+    }
+}
+
+/// A net divided.
+#[derive(Clone, Debug, PartialEq, Eq)]
+pub struct Division {
+    /// What each vertex carries: its weight and what its children carry that are not cut off. At a top, the weight of its group.
+    pub carried: Vec<u32>,
+    /// The highest vertex of each vertex's group. One that is its own top and has a parent is cut off from it.
+    pub top: Vec<u32>,
+    /// The block of each vertex, from 0.
+    pub block: Vec<u32>,
+    /// The load of each block.
+    pub block_loads: Vec<u32>,
+}
+
+/// What a division costs.
+#[derive(Clone, Debug, PartialEq, Eq)]
+pub struct Report {
+    pub division: Division,
+    /// The block of each edge: that of its lower end.
+    pub edge_blocks: Vec<u32>,
+    /// How many vertices above a vertex have an edge to it or to a vertex that it is above.
+    pub reach: Vec<u32>,
+    /// The number of different blocks among the edges of a vertex.
+    pub block_count: Vec<u32>,
+    /// The sum of the reaches of the vertices that are cut off.
+    pub bound: u64,
+    /// The sum of (block count - 1) over the vertices with an edge; never above the bound.
+    pub volume: u64,
+}
+
+impl Division {
+    fn sized(vertices: usize, blocks: u32) -> Division {
+        let zeros = |length| vec![0; length];
+        Division { carried: zeros(vertices), top: zeros(vertices), block: zeros(vertices), block_loads: zeros(blocks as usize) }
     }
 }
 

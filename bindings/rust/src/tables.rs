@@ -38,6 +38,37 @@ mod library {
             weights: *mut u32, weights_length: usize,
             bytes: *const u8, bytes_length: usize,
         ) -> u32;
+        pub fn niqastul_divide(
+            parents: *const u32, parents_length: usize,
+            weights: *const u32, weights_length: usize,
+            limit: u32,
+            blocks: u32,
+            carried: *mut u32, carried_length: usize,
+            top: *mut u32, top_length: usize,
+            block: *mut u32, block_length: usize,
+            block_loads: *mut u32, block_loads_length: usize,
+        ) -> u32;
+        pub fn niqastul_report(
+            parents: *const u32, parents_length: usize,
+            weights: *const u32, weights_length: usize,
+            limit: u32,
+            blocks: u32,
+            edges: *const u32, edges_length: usize,
+            carried: *mut u32, carried_length: usize,
+            top: *mut u32, top_length: usize,
+            block: *mut u32, block_length: usize,
+            block_loads: *mut u32, block_loads_length: usize,
+            edge_blocks: *mut u32, edge_blocks_length: usize,
+            reach: *mut u32, reach_length: usize,
+            block_count: *mut u32, block_count_length: usize,
+            compared_parents: *mut u32, compared_parents_length: usize,
+            compared_weights: *mut u32, compared_weights_length: usize,
+            ends: *mut u32, ends_length: usize,
+            jump: *mut u32, jump_length: usize,
+            lower: *mut u32, lower_length: usize,
+            bound: *mut u64,
+            volume: *mut u64,
+        ) -> u32;
     }
 }
 
@@ -48,7 +79,7 @@ fn answer(number: u32) -> Result<(), Refusal> {
     Err(*Refusal::ALL.iter().find(|refusal| refusal.number() == number).expect("a refusal of document 01"))
 }
 
-/// Work tables of [`add`] and [`join`].
+/// Work tables of [`add`], [`join`] and [`report`].
 #[derive(Clone, Debug, Default)]
 pub struct Work {
     pub ends: Vec<u32>,
@@ -57,7 +88,7 @@ pub struct Work {
 }
 
 impl Work {
-    /// Room for a net of so many vertices, and so many edges to add or vertices of a net to join.
+    /// Room for a net of so many vertices, and so many edges to add or report on, or vertices of a net to join.
     pub fn resize(&mut self, vertices: usize, more: usize) {
         self.ends.resize(vertices, 0);
         self.jump.resize(vertices, 0);
@@ -140,4 +171,75 @@ pub fn read(parents: &mut [u32], weights: &mut [u32], bytes: &[u8]) -> Result<()
             bytes.as_ptr(), bytes.len(),
         )
     })
+}
+
+/// Divides a net into groups that carry at most a limit, and packs them into blocks.
+pub fn divide(
+    parents: &[u32],
+    weights: &[u32],
+    limit: u32,
+    blocks: u32,
+    carried: &mut [u32],
+    top: &mut [u32],
+    block: &mut [u32],
+    block_loads: &mut [u32],
+) -> Result<(), Refusal> {
+    answer(unsafe {
+        library::niqastul_divide(
+            parents.as_ptr(), parents.len(),
+            weights.as_ptr(), weights.len(),
+            limit,
+            blocks,
+            carried.as_mut_ptr(), carried.len(),
+            top.as_mut_ptr(), top.len(),
+            block.as_mut_ptr(), block.len(),
+            block_loads.as_mut_ptr(), block_loads.len(),
+        )
+    })
+}
+
+/// Divides a net and reports what the division costs, given the net's own edges; answers the bound and the volume. Refused with
+/// [`Refusal::OtherEdges`], it leaves the net of the edges in the compared tables.
+pub fn report(
+    parents: &[u32],
+    weights: &[u32],
+    limit: u32,
+    blocks: u32,
+    edges: &[u32],
+    carried: &mut [u32],
+    top: &mut [u32],
+    block: &mut [u32],
+    block_loads: &mut [u32],
+    edge_blocks: &mut [u32],
+    reach: &mut [u32],
+    block_count: &mut [u32],
+    compared_parents: &mut [u32],
+    compared_weights: &mut [u32],
+    work: &mut Work,
+) -> Result<(u64, u64), Refusal> {
+    let (mut bound, mut volume) = (0, 0);
+    answer(unsafe {
+        library::niqastul_report(
+            parents.as_ptr(), parents.len(),
+            weights.as_ptr(), weights.len(),
+            limit,
+            blocks,
+            edges.as_ptr(), edges.len(),
+            carried.as_mut_ptr(), carried.len(),
+            top.as_mut_ptr(), top.len(),
+            block.as_mut_ptr(), block.len(),
+            block_loads.as_mut_ptr(), block_loads.len(),
+            edge_blocks.as_mut_ptr(), edge_blocks.len(),
+            reach.as_mut_ptr(), reach.len(),
+            block_count.as_mut_ptr(), block_count.len(),
+            compared_parents.as_mut_ptr(), compared_parents.len(),
+            compared_weights.as_mut_ptr(), compared_weights.len(),
+            work.ends.as_mut_ptr(), work.ends.len(),
+            work.jump.as_mut_ptr(), work.jump.len(),
+            work.lower.as_mut_ptr(), work.lower.len(),
+            &mut bound,
+            &mut volume,
+        )
+    })?;
+    Ok((bound, volume))
 }

@@ -61,6 +61,101 @@ fn relabelled() {
 }
 
 #[test]
+fn divided() {
+    // document 01's whole case
+    let order = [3, 0, 1, 2, 4, 5];
+    let net = net(6, &relabel(&order, &[3, 1, 3, 4, 0, 2, 0, 4, 1, 5, 1, 3]).unwrap());
+    let division = net.divide(4, 2).unwrap();
+    assert_eq!(division.carried, [3, 2, 4, 2, 2, 2]);
+    assert_eq!(division.top, [2, 5, 2, 5, 5, 5]);
+    assert_eq!(division.block, [0, 1, 0, 1, 1, 1]);
+    assert_eq!(division.block_loads, [4, 2]);
+    assert_eq!(net.divide(3, 1).unwrap().top, [0, 5, 5, 5, 5, 5]);
+    assert_eq!(net.divide(2, 2), Err(Refusal::TooHeavy));
+    assert_eq!(net.divide(0, 2), Err(Refusal::BadLimit));
+    assert_eq!(net.divide(16_000_001, 2), Err(Refusal::BadLimit));
+    assert_eq!(net.divide(4, 0), Err(Refusal::BadLimit));
+    assert_eq!(net.divide(4, 1001), Err(Refusal::BadLimit));
+    assert_eq!(net.divide(4, u32::MAX), Err(Refusal::BadLimit));
+    assert_eq!(net.divide(4, 1000).unwrap().block_loads.len(), 1000);
+    assert_eq!(Net::default().divide(4, u32::MAX), Err(Refusal::BadCount));
+}
+
+#[test]
+fn divided_lent_tables() {
+    let (mut carried, mut top, mut block, mut loads) = ([7], [7], [7], [7, 7]);
+    let mut divide = |parents: &[u32], weights: &[u32], blocks| {
+        let number = tables::divide(parents, weights, 1, blocks, &mut carried, &mut top, &mut block, &mut loads);
+        (number, carried, top, block, loads)
+    };
+    let untouched = ([7], [7], [7], [7, 7]);
+    let cases: [(&[u32], &[u32], u32, Refusal); 5] = [
+        (&[], &[1], 3, Refusal::BadCount),
+        (&[0], &[2], 3, Refusal::WrongLength),
+        (&[0], &[2, 0], 2, Refusal::WrongLength),
+        (&[0], &[2], 2, Refusal::Damaged),
+        (&[ABSENT], &[2], 2, Refusal::TooHeavy),
+    ];
+    for (parents, weights, blocks, refusal) in cases {
+        let (number, carried, top, block, loads) = divide(parents, weights, blocks);
+        assert_eq!((number, (carried, top, block, loads)), (Err(refusal), untouched));
+    }
+    assert_eq!(divide(&[ABSENT], &[1], 2), (Ok(()), [1], [0], [0], [1, 0]));
+}
+
+#[test]
+fn reported() {
+    // document 01's whole case
+    let edges = relabel(&[3, 0, 1, 2, 4, 5], &[3, 1, 3, 4, 0, 2, 0, 4, 1, 5, 1, 3]).unwrap();
+    let mut net = net(6, &edges);
+    let report = net.report(4, 2, &edges).unwrap();
+    assert_eq!(Ok(report.division), net.divide(4, 2));
+    assert_eq!(report.edge_blocks, [0, 0, 1, 1, 0, 0]);
+    assert_eq!(report.reach, [2, 2, 2, 1, 1, 0]);
+    assert_eq!(report.block_count, [1, 1, 1, 1, 2, 1]);
+    assert_eq!((report.bound, report.volume), (2, 1));
+    let report = net.report(4, 1, &edges).unwrap();
+    assert_eq!((report.bound, report.volume), (2, 0));
+    assert_eq!(net.report(4, 2, &edges[1..]), Err(Refusal::WrongLength));
+    assert_eq!(net.report(4, u32::MAX, &edges), Err(Refusal::BadLimit));
+    assert_eq!(net.report(4, 2, &[0, 6]), Err(Refusal::BadVertex));
+    assert_eq!(net.report(4, 2, &[0, 0]), Err(Refusal::Loop));
+    assert_eq!(net.report(2, 2, &edges), Err(Refusal::TooHeavy));
+    assert_eq!(net.report(4, 2, &edges[2..]), Err(Refusal::OtherEdges));
+}
+
+#[test]
+fn compared() {
+    let work = &mut tables::Work::default();
+    work.resize(2, 1);
+    let (mut carried, mut top, mut block, mut loads) = ([7; 2], [7; 2], [7; 2], [7]);
+    let (mut edge_blocks, mut reach, mut count) = ([7], [7; 2], [7; 2]);
+    let (mut parents, mut weights) = ([7; 2], [7; 2]);
+    let mut report = |net: [u32; 2]| {
+        let answer = tables::report(
+            &net,
+            &[0, 0],
+            1,
+            1,
+            &[0, 1],
+            &mut carried,
+            &mut top,
+            &mut block,
+            &mut loads,
+            &mut edge_blocks,
+            &mut reach,
+            &mut count,
+            &mut parents,
+            &mut weights,
+            work,
+        );
+        (answer, parents, weights, carried)
+    };
+    assert_eq!(report([0, ABSENT]), (Err(Refusal::Damaged), [7, 7], [7, 7], [7, 7]));
+    assert_eq!(report([1, ABSENT]), (Err(Refusal::OtherEdges), [1, ABSENT], [1, 0], [7, 7]));
+}
+
+#[test]
 fn refusals() {
     assert_eq!(Net::new(0), Err(Refusal::BadCount));
     assert_eq!(Net::new(1_000_001), Err(Refusal::BadCount));

@@ -3,6 +3,7 @@
 // function here asks anything of its caller that its types do not say: tables are readable or writable over their length, and one
 // that is written overlaps no other.
 use refusal::Answer;
+use report::ReportAnswer;
 ghost use mathlib.Core.Path.{_≡_};
 ghost use Rattle.game.specs.Net.{net};
 ghost use Rattle.refusal.specs.Answer.{number};
@@ -12,7 +13,10 @@ ghost use Rattle.forest.specs.Start.{startOutcome};
 ghost use Rattle.forest.specs.Add.{addOutcome};
 ghost use Rattle.forest.specs.Join.{joinOutcome};
 ghost use Rattle.linkfile.specs.LinkFile.{saveOutcome, readOutcome};
+ghost use Rattle.partition.specs.Divide.{tables as divisionOf, divideOutcome};
 ghost use Rattle.relabel.specs.Relabel.{tables, relabelOutcome};
+ghost use Rattle.report.specs.Report.{written, lent, reportOutcome};
+ghost use Rattle.exports.specs.Reported.{figures, reported, handed};
 
 fn code(answer: Answer) -> u32
     ensures { λ r. ⌜ r ≡ number answer ⌝ }
@@ -91,4 +95,85 @@ pub extern "C" fn niqastul_read(parents: &mut [u32], weights: &mut [u32], bytes:
     ensures { λ r. ⌜ ended r (net (now (parents .exit)) (now (weights .exit))) ≡ readOutcome (net (now (parents .entry)) (now (weights .entry))) (now (bytes .entry)) ⌝ }
 {
     code(linkfile::read(parents, weights, bytes))
+}
+
+#[no_mangle]
+pub extern "C" fn niqastul_divide(
+    parents: &[u32],
+    weights: &[u32],
+    limit: u32,
+    blocks: u32,
+    carried: &mut [u32],
+    top: &mut [u32],
+    block: &mut [u32],
+    block_loads: &mut [u32],
+) -> u32
+    ensures { λ r. ⌜ ended r (divisionOf (now (carried .exit)) (now (top .exit)) (now (block .exit)) (now («block_loads» .exit))) ≡ divideOutcome (net (now (parents .entry)) (now (weights .entry))) limit blocks (divisionOf (now (carried .entry)) (now (top .entry)) (now (block .entry)) (now («block_loads» .entry))) ⌝ }
+{
+    code(partition::divide(
+        parents,
+        weights,
+        limit,
+        blocks,
+        carried,
+        top,
+        block,
+        block_loads,
+    ))
+}
+
+// The figures of an accepted report go into the two cells; a refused one leaves the cells as they were.
+#[no_mangle]
+pub extern "C" fn niqastul_report(
+    parents: &[u32],
+    weights: &[u32],
+    limit: u32,
+    blocks: u32,
+    edges: &[u32],
+    carried: &mut [u32],
+    top: &mut [u32],
+    block: &mut [u32],
+    block_loads: &mut [u32],
+    edge_blocks: &mut [u32],
+    reach: &mut [u32],
+    block_count: &mut [u32],
+    compared_parents: &mut [u32],
+    compared_weights: &mut [u32],
+    ends: &mut [u32],
+    jump: &mut [u32],
+    lower: &mut [u32],
+    bound: &mut u64,
+    volume: &mut u64,
+) -> u32
+    ensures { λ r. ⌜ reported r (figures (now (bound .exit)) (now (volume .exit))) (lent (written (divisionOf (now (carried .exit)) (now (top .exit)) (now (block .exit)) (now («block_loads» .exit))) (now («edge_blocks» .exit)) (now (reach .exit)) (now («block_count» .exit))) (net (now («compared_parents» .exit)) (now («compared_weights» .exit))) (workOf (now (ends .exit)) (now (jump .exit)) (now (lower .exit)))) ≡ handed (figures (now (bound .entry)) (now (volume .entry))) (reportOutcome (net (now (parents .entry)) (now (weights .entry))) limit blocks (now (edges .entry)) (lent (written (divisionOf (now (carried .entry)) (now (top .entry)) (now (block .entry)) (now («block_loads» .entry))) (now («edge_blocks» .entry)) (now (reach .entry)) (now («block_count» .entry))) (net (now («compared_parents» .entry)) (now («compared_weights» .entry))) (workOf (now (ends .entry)) (now (jump .entry)) (now (lower .entry))))) ⌝ }
+{
+    match report::report(
+        parents,
+        weights,
+        limit,
+        blocks,
+        edges,
+        carried,
+        top,
+        block,
+        block_loads,
+        edge_blocks,
+        reach,
+        block_count,
+        compared_parents,
+        compared_weights,
+        ends,
+        jump,
+        lower,
+    ) {
+        ReportAnswer::Accepted {
+            bound: cost,
+            volume: shared,
+        } => {
+            *bound = cost;
+            *volume = shared;
+            0
+        }
+        ReportAnswer::Refused(why) => why,
+    }
 }

@@ -9,7 +9,7 @@ use native.Mathlib.Nat.{not-suc-le-zero, le-of-suc-le-suc, add-zero, zero-add}
 use native.Mathlib.Omega.{arith}
 use lib.Dec.{eqb}
 use native.Mathlib.Numerals.{add-one}
-use lib.ListN.{length, getD, drop, replicate, length-replicate, getD-replicate, drop-of-length-le}
+use lib.ListN.{length, getD, set, drop, replicate, length-replicate, getD-replicate, drop-of-length-le}
 use lib.Seq.{ext-getD, drop-cons}
 use borrow.Author.Tests.{eqb-true, eq-eqb}
 use Rattle.game.specs.Table.{tabulateFrom, tabulate, sum, member, count}
@@ -102,3 +102,23 @@ sum-drop xs i h = rw (add-one, drop-cons xs i 0)
 pub sum-end : (xs : List ℕ) (i : ℕ) → length xs ≤ i → sum (drop i xs) ≡ 0
 unfolding sum
 sum-end xs i h = rw (drop-of-length-le xs h)
+
+-- one entry of a table changed
+pub sum-set : (xs : List ℕ) (i v : ℕ) → i < length xs → sum (set xs i v) + getD xs i 0 ≡ sum xs + v
+unfolding sum
+sum-set [] i v h = absurd (omega arith)
+sum-set (x ∷ xs) zero v h = omega arith
+sum-set (x ∷ xs) (suc i) v h = omega (arith, sum-set xs i v (omega arith))
+
+-- the same, from place k on
+pub sum-drop-set : (xs : List ℕ) (k i v : ℕ) → k ≤ i → i < length xs → sum (drop k (set xs i v)) + getD xs i 0 ≡ sum (drop k xs) + v
+sum-drop-set xs zero i v h l = sum-set xs i v l
+sum-drop-set [] (suc k) i v h l = absurd (omega arith)
+sum-drop-set (x ∷ xs) (suc k) zero v h l = absurd (omega arith)
+sum-drop-set (x ∷ xs) (suc k) (suc i) v h l = sum-drop-set xs k i v (omega arith) (omega arith)
+
+pub sum-drop-entry : (xs : List ℕ) (k i : ℕ) → k ≤ i → getD xs i 0 ≤ sum (drop k xs)
+sum-drop-entry xs zero i h = sum-entry xs i
+sum-drop-entry [] (suc k) i h = omega arith
+sum-drop-entry (x ∷ xs) (suc k) zero h = absurd (omega arith)
+sum-drop-entry (x ∷ xs) (suc k) (suc i) h = sum-drop-entry xs k i (omega arith)

@@ -16,7 +16,7 @@ use borrow.Author.Tests.{eqb-true, eq-eqb, ne-eqb, lt-ltb, le-ltb}
 use Rattle.game.specs.Table.{tabulate, sum, member}
 use Rattle.game.specs.Game.{absent}
 use Rattle.game.proofs.Sound.{Sound, sound-true, getD-default}
-use Rattle.game.proofs.Tables.{member-in, in-member, sum-drop, sum-zeros}
+use Rattle.game.proofs.Tables.{member-in, in-member, sum-drop, sum-zeros, sum-drop-set, sum-drop-entry}
 use Rattle.refusal.specs.Limits.{maxTotal}
 use Rattle.partition.specs.Cut.{such, childrenBelow, children, carries, trim, kept, carried, cut}
 use Rattle.partition.specs.Work.{Divisible, Chain, end, node, Falling, none, less, hanging, Brood, Lightened, holder, Cuts}
@@ -25,7 +25,7 @@ use Rattle.partition.proofs.Trimming.{carries-agree, trim-agree}
 use Rattle.partition.proofs.Carried.{entry, below-in, in-below, below-rising, children-in, in-children, children-rising, child-lower, kept-in, kept-step, cut-child, carried-size, carried-fits}
 use Rattle.partition.proofs.Chains.{chain-agree, chain-set}
 use Rattle.partition.proofs.Turns.{hung-before}
-use Rattle.partition.proofs.Sums.{only, total, total-such, total-grown, sum-drop-set, sum-drop-entry}
+use Rattle.partition.proofs.Sums.{only, total, total-such, total-grown}
 
 -- the ranks below m, the highest first
 down : ℕ → List ℕ

@@ -12,7 +12,8 @@ use Rattle.game.proofs.Sound.{Sound, sound-true}
 use Rattle.game.proofs.Tables.{tabulate-length, tabulate-entry}
 use Rattle.partition.specs.Cut.{carried, cut, top, isTop}
 use Rattle.partition.specs.Pack.{loadsBelow, blockOf}
-use Rattle.partition.specs.Divide.{tables, netOfTables, divided, maxBlocks}
+use Rattle.game.specs.Net.{net}
+use Rattle.partition.specs.Divide.{tables, divided, maxBlocks}
 use Rattle.partition.specs.Work.{Divisible, Cuts, Hanging, Climbed, Grouped, Packable, Topped, Assigned}
 use Rattle.partition.proofs.Lists.{stretch, stretch-in, sum-agree}
 use Rattle.partition.proofs.Sums.{only, total}
@@ -77,7 +78,7 @@ module _ {p w : List ℕ} {B : ℕ} (d : Divisible p w B) where
 
     -- all tables are as they have to be
     pub all-divided : {block loads : List ℕ} {k : ℕ} → Assigned tops now block loads → length loads ≡ k
-        → tables now tops block loads ≡ divided (netOfTables p w) B k
+        → tables now tops block loads ≡ divided (net p w) B k
     unfolding divided cut
     all-divided {block} {loads} {k} a h = λ i. tables (c .weights i) (c .table i) (blocks i) (sums i)
       where

@@ -20,7 +20,8 @@ use Rattle.game.proofs.Sound.{Sound, sound-true}
 use Rattle.game.proofs.Tables.{tabulate-entry}
 use Rattle.partition.specs.Cut.{such, carried, cut, top, isTop, groupWeight}
 use Rattle.partition.specs.Pack.{loadsBelow, blockOf, largest}
-use Rattle.partition.specs.Divide.{netOfTables, divided}
+use Rattle.game.specs.Net.{net}
+use Rattle.partition.specs.Divide.{divided}
 use Rattle.partition.specs.Work.{Divisible, Grouped}
 use Rattle.partition.proofs.Lists.{test-cases, stretch, stretch-in, sum-agree}
 use Rattle.partition.proofs.Sums.{only, total-such}
@@ -72,7 +73,7 @@ module _ {p w : List ℕ} {B : ℕ} (d : Divisible p w B) where
     abbrev loads : List ℕ
     loads = loadsBelow (topIn tops) weight k (length p)
 
-    loads-are : divided (netOfTables p w) B k .blockLoads ≡ loads
+    loads-are : divided (net p w) B k .blockLoads ≡ loads
     unfolding divided cut
     loads-are = refl
 
@@ -92,17 +93,17 @@ module _ {p w : List ℕ} {B : ℕ} (d : Divisible p w B) where
         (sum-spread loads j B (omega (arith, loads-size)) (λ i l. loads-even (topIn tops) weight k some B (length p) top-fits j i h (omega (arith, loads-size)))))
 
     -- block loads sum to the total
-    pub block-loads-sum : sum (divided (netOfTables p w) B k .blockLoads) ≡ sum w
+    pub block-loads-sum : sum (divided (net p w) B k .blockLoads) ≡ sum w
     block-loads-sum = ap sum loads-are ∙ loads-total
 
     -- k × the largest is at most total + (k−1) × B
-    pub largest-bound : k * largest (divided (netOfTables p w) B k .blockLoads) ≤ sum w + (k - 1) * B
+    pub largest-bound : k * largest (divided (net p w) B k .blockLoads) ≤ sum w + (k - 1) * B
     largest-bound = rw loads-are (largest-within loads k (sum w + (k - 1) * B) (λ j l. load-within j (omega (arith, loads-size))))
 
     blockIn : ℕ → ℕ
     blockIn x = blockOf (topIn tops) weight k (getD tops x 0)
 
-    blocks-are : (x : ℕ) → x < length p → getD (divided (netOfTables p w) B k .block) x 0 ≡ blockIn x
+    blocks-are : (x : ℕ) → x < length p → getD (divided (net p w) B k .block) x 0 ≡ blockIn x
     unfolding divided cut blockIn
     blocks-are x l = tabulate-entry (length p) blockIn x 0 l
 
@@ -128,8 +129,8 @@ module _ {p w : List ℕ} {B : ℕ} (d : Divisible p w B) where
           same = ap (λ (v : ℕ). only (eqb v x) (only (eqb (blockIn x) j) (weight x))) (tops-entry d grouped x l)
 
     -- the load of a block is the weight of its vertices
-    pub block-load : (j : ℕ) → j < k → getD (divided (netOfTables p w) B k .blockLoads) j 0
-        ≡ sum (map (λ (x : ℕ). getD w x 0) (such (λ (x : ℕ). eqb (getD (divided (netOfTables p w) B k .block) x 0) j) (tabulate (length p) (λ (x : ℕ). x))))
+    pub block-load : (j : ℕ) → j < k → getD (divided (net p w) B k .blockLoads) j 0
+        ≡ sum (map (λ (x : ℕ). getD w x 0) (such (λ (x : ℕ). eqb (getD (divided (net p w) B k .block) x 0) j) (tabulate (length p) (λ (x : ℕ). x))))
     unfolding tabulate
     block-load j h =
         ap (λ (v : List ℕ). getD v j 0) loads-are
@@ -137,9 +138,9 @@ module _ {p w : List ℕ} {B : ℕ} (d : Divisible p w B) where
         ∙ sum-agree (λ x. only (topIn tops x) (only (eqb (blockOf (topIn tops) weight k x) j) (weight x)))
         (λ x. only (isTop p cuts x) (only (eqb (blockIn x) j) (weight x))) ranks (λ x m. carriedBy j x (inside m))
         ∙ sym (chosen-weight s u (λ x. eqb (blockIn x) j) (λ x g e. ap (λ (v : ℕ). eqb v j) (joined x g e)) (greedy-carrying s u w B))
-        ∙ sum-agree (λ x. only (eqb (blockIn x) j) (entry w x)) (λ x. only (eqb (getD (divided (netOfTables p w) B k .block) x 0) j) (entry w x)) ranks
+        ∙ sum-agree (λ x. only (eqb (blockIn x) j) (entry w x)) (λ x. only (eqb (getD (divided (net p w) B k .block) x 0) j) (entry w x)) ranks
         (λ x m. ap (λ (v : ℕ). only (eqb v j) (entry w x)) (sym (blocks-are x (inside m))))
-        ∙ sym (total-such (λ x. eqb (getD (divided (netOfTables p w) B k .block) x 0) j) (entry w) ranks)
+        ∙ sym (total-such (λ x. eqb (getD (divided (net p w) B k .block) x 0) j) (entry w) ranks)
       where
         ranks : List ℕ
         ranks = stretch 0 (length p)

@@ -14,12 +14,12 @@ use lib.ListN.{length, getD, replicate, length-set, length-replicate, getD-repli
 use lib.Seq.{getD-set-same, getD-set-other}
 use borrow.Author.Tests.{eq-eqb, ne-eqb, ltb-true, ltb-false}
 use Rattle.game.specs.Table.{tabulateFrom, tabulate, sum}
-use Rattle.game.proofs.Tables.{sum-zeros}
+use Rattle.game.proofs.Tables.{sum-zeros, sum-set}
 use Rattle.partition.specs.Cut.{best}
 use Rattle.partition.specs.Pack.{lightest, put, loadsBelow, blockOf}
 use Rattle.partition.proofs.Lists.{test-cases, stretch, stretch-rising, stretch-in, in-stretch}
 use Rattle.partition.proofs.Best.{Best, best-is, lighter}
-use Rattle.partition.proofs.Sums.{only, total, total-grown, sum-set}
+use Rattle.partition.proofs.Sums.{only, total, total-grown}
 
 -- j is the lightest of the blocks, of equals the lowest
 pub record Lightest (loads : List ℕ) (j : ℕ) : Type 0 where

@@ -17,13 +17,14 @@ use Rattle.refusal.specs.Limits.{maxVertices}
 use Rattle.refusal.specs.Refusal.{given, first, badCount, wrongLength}
 use Rattle.refusal.specs.Outcome.{ended}
 use Rattle.refusal.proofs.Ends.{ends-refused, ends-accepted}
-use Rattle.refusal.proofs.First.{first-pass, first-stop, first-none, given-true, given-false, given-none}
-use Rattle.game.specs.Net.{Net, total}
+use Rattle.refusal.proofs.First.{pass, stop, first-none, given-none, length-right, good-count}
+use Rattle.game.specs.Net.{Net, total, net}
 use Rattle.net.specs.Damage.{damagedBy, damaged}
 use Rattle.net.proofs.Scan.{undamaged}
+use Rattle.game.proofs.Bools.{or-neither}
 use Rattle.game.proofs.Sound.{true-sound}
 use Rattle.partition.specs.Work.{Divisible, Fitting}
-use Rattle.partition.specs.Divide.{outside, badLimits, tooHeavy, maxBound, maxBlocks, Tables, netOfTables, wrongTables, divideRefusal, divided, divideOutcome}
+use Rattle.partition.specs.Divide.{outside, badLimits, tooHeavy, maxBound, maxBlocks, Tables, wrongTables, divideRefusal, divided, divideOutcome}
 
 module _ (most v : ℕ) where
   pub outside-low : v < 1 → outside most v ≡ true
@@ -57,22 +58,13 @@ module _ (B : ℕ) (w : List ℕ) (i : ℕ) where
   unfolding tooHeavy
   heavy-end h = rw (drop-of-length-le w h)
 
--- neither of two tests joined by "or" passes
-or-false : (a b : Bool) → (a || b) ≡ false → (a ≡ false) × (b ≡ false)
-or-false true b e = absurd (true≢false e)
-or-false false b e = (refl, e)
-
 pub limits-not : (B k : ℕ) → badLimits B k ≡ false → (1 ≤ B) × (B ≤ maxBound) × (1 ≤ k) × (k ≤ maxBlocks)
 unfolding badLimits
 limits-not B k e =
-    let t = or-false (outside maxBound B) (outside maxBlocks k) e in
+    let t = or-neither (outside maxBound B) (outside maxBlocks k) e in
     let b = outside-not maxBound B (t .0) in
     let c = outside-not maxBlocks k (t .1) in
     (b .0, b .1, c .0, c .1)
-
-pub count-not : (n : ℕ) → badCount n ≡ false → n ≤ maxVertices
-unfolding badCount
-count-not n e = ltb-false maxVertices n (or-false (eqb n 0) (ltb maxVertices n) e .1)
 
 -- right lengths
 pub record Sized (net : Net) (k : ℕ) (was : Tables) : Type 0 where
@@ -82,23 +74,19 @@ pub record Sized (net : Net) (k : ℕ) (was : Tables) : Type 0 where
   pub block : length (was .block) ≡ length (net .parents)
   pub loads : length (was .blockLoads) ≡ k
 
-right : (a n : ℕ) → wrongLength a n ≡ false → a ≡ n
-unfolding wrongLength
-right a n e = eqb-true a n (not-false (eqb a n) e)
-
 pub tables-not : (net : Net) (k : ℕ) (was : Tables) → wrongTables net k was ≡ false → Sized net k was
 unfolding wrongTables
 tables-not net k was e =
-    let a = or-false (w || c || t || b) (wrongLength (length (was .blockLoads)) k) e in
-    let f = or-false (w || c || t) b (a .0) in
-    let g = or-false (w || c) t (f .0) in
-    let h = or-false w c (g .0) in
+    let a = or-neither (w || c || t || b) (wrongLength (length (was .blockLoads)) k) e in
+    let f = or-neither (w || c || t) b (a .0) in
+    let g = or-neither (w || c) t (f .0) in
+    let h = or-neither w c (g .0) in
     record {
-      weights = right (length (net .weights)) n (h .0);
-      carried = right (length (was .carried)) n (h .1);
-      top = right (length (was .top)) n (g .1);
-      block = right (length (was .block)) n (f .1);
-      loads = right (length (was .blockLoads)) k (a .1);
+      weights = length-right (length (net .weights)) n (h .0);
+      carried = length-right (length (was .carried)) n (h .1);
+      top = length-right (length (was .top)) n (g .1);
+      block = length-right (length (was .block)) n (f .1);
+      loads = length-right (length (was .blockLoads)) k (a .1);
     }
   where
     n : ℕ
@@ -117,7 +105,7 @@ tables-not net k was e =
     b = wrongLength (length (was .block)) n
 
 -- a net's damage, by its summary
-pub damaged-as : (p w : List ℕ) {s : ℕ} {r : Bool} → s ≡ sum w → r ≡ damagedBy p s → damaged (netOfTables p w) ≡ r
+pub damaged-as : (p w : List ℕ) {s : ℕ} {r : Bool} → s ≡ sum w → r ≡ damagedBy p s → damaged (net p w) ≡ r
 unfolding damaged
 damaged-as p w e f = ap (damagedBy p) (sym e) ∙ sym f
 
@@ -125,15 +113,8 @@ damaged-as p w e f = ap (damagedBy p) (sym e) ∙ sym f
 pub heavy-not : (B : ℕ) (w : List ℕ) → tooHeavy B w ≡ false → (x : ℕ) → getD w x 0 ≤ B
 unfolding tooHeavy
 heavy-not B [] e x = omega arith
-heavy-not B (v ∷ w) e zero = ltb-false B v (or-false (ltb B v) (tooHeavy B w) e .0)
-heavy-not B (v ∷ w) e (suc x) = heavy-not B w (or-false (ltb B v) (tooHeavy B w) e .1) x
-
--- a test of a chain that does not apply, and one that does
-pass : {t : Bool} (k : ℕ) (ks : List ℕ) → t ≡ false → first (given t k ∷ ks) ≡ first ks
-pass {t} k ks e = first-pass (given t k) ks (given-false t k e)
-
-stop : {t : Bool} (k : ℕ) (ks : List ℕ) → t ≡ true → first (given t (suc k) ∷ ks) ≡ suc k
-stop {t} k ks e = ap (λ (v : ℕ). first (v ∷ ks)) (given-true t (suc k) e) ∙ first-stop (suc k) ks (λ z. omega arith)
+heavy-not B (v ∷ w) e zero = ltb-false B v (or-neither (ltb B v) (tooHeavy B w) e .0)
+heavy-not B (v ∷ w) e (suc x) = heavy-not B w (or-neither (ltb B v) (tooHeavy B w) e .1) x
 
 -- Divide's refusal, test by test: each is reached if no earlier one applied
 module _ (net : Net) (B k : ℕ) (was : Tables) where
@@ -183,22 +164,22 @@ pub record Accepted (p w : List ℕ) (B k : ℕ) (was : Tables) : Type 0 where
   pub tables : Fitting (length p) was
   pub blocks : length (was .blockLoads) ≡ k
 
-pub accepted : (p w : List ℕ) (B k : ℕ) (was : Tables) → divideRefusal (netOfTables p w) B k was ≡ 0 → Accepted p w B k was
+pub accepted : (p w : List ℕ) (B k : ℕ) (was : Tables) → divideRefusal (net p w) B k was ≡ 0 → Accepted p w B k was
 unfolding divideRefusal
 accepted p w B k was e =
-    let a = first-none (given (badCount (length p)) 1) (sizes (netOfTables p w) B k was) e in
-    let b = first-none (given (wrongTables (netOfTables p w) k was) 2) (limits (netOfTables p w) B k was) (a .1) in
-    let c = first-none (given (badLimits B k) 8) (damage (netOfTables p w) B k was) (b .1) in
-    let d = first-none (given (damaged (netOfTables p w)) 30) (heavy (netOfTables p w) B k was) (c .1) in
+    let a = first-none (given (badCount (length p)) 1) (sizes (net p w) B k was) e in
+    let b = first-none (given (wrongTables (net p w) k was) 2) (limits (net p w) B k was) (a .1) in
+    let c = first-none (given (badLimits B k) 8) (damage (net p w) B k was) (b .1) in
+    let d = first-none (given (damaged (net p w)) 30) (heavy (net p w) B k was) (c .1) in
     let f = first-none (given (tooHeavy B w) 22) [] (d .1) in
-    let lengths = tables-not (netOfTables p w) k was (given-none (wrongTables (netOfTables p w) k was) 1 (b .0)) in
+    let lengths = tables-not (net p w) k was (given-none (wrongTables (net p w) k was) 1 (b .0)) in
     let limit = limits-not B k (given-none (badLimits B k) 7 (c .0)) in
-    let sane = undamaged p (sum w) (given-none (damaged (netOfTables p w)) 29 (d .0)) in
+    let sane = undamaged p (sum w) (given-none (damaged (net p w)) 29 (d .0)) in
     record {
       net =
           record {
             known = true-sound (sane .0);
-            few = count-not (length p) (given-none (badCount (length p)) 0 (a .0));
+            few = good-count (length p) (given-none (badCount (length p)) 0 (a .0)) .1;
             sized = lengths .weights;
             small = sane .1;
             some = limit .0;

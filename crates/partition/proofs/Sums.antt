@@ -79,26 +79,6 @@ unfolding sum tabulateFrom
 total-grown v f e g zero = e
 total-grown v f e g (suc m) = omega (arith, g m, total-grown v f e g m, total-last f 0 m, ap f (zero-add m))
 
--- one entry of a table changed
-pub sum-set : (xs : List ℕ) (i v : ℕ) → i < length xs → sum (set xs i v) + getD xs i 0 ≡ sum xs + v
-unfolding sum
-sum-set [] i v h = absurd (omega arith)
-sum-set (x ∷ xs) zero v h = omega arith
-sum-set (x ∷ xs) (suc i) v h = omega (arith, sum-set xs i v (omega arith))
-
--- the same, from rank k on
-pub sum-drop-set : (xs : List ℕ) (k i v : ℕ) → k ≤ i → i < length xs → sum (drop k (set xs i v)) + getD xs i 0 ≡ sum (drop k xs) + v
-sum-drop-set xs zero i v h l = sum-set xs i v l
-sum-drop-set [] (suc k) i v h l = absurd (omega arith)
-sum-drop-set (x ∷ xs) (suc k) zero v h l = absurd (omega arith)
-sum-drop-set (x ∷ xs) (suc k) (suc i) v h l = sum-drop-set xs k i v (omega arith) (omega arith)
-
-pub sum-drop-entry : (xs : List ℕ) (k i : ℕ) → k ≤ i → getD xs i 0 ≤ sum (drop k xs)
-sum-drop-entry xs zero i h = sum-entry xs i
-sum-drop-entry [] (suc k) i h = omega arith
-sum-drop-entry (x ∷ xs) (suc k) zero h = absurd (omega arith)
-sum-drop-entry (x ∷ xs) (suc k) (suc i) h = sum-drop-entry xs k i (omega arith)
-
 -- a longer stretch comes to no less
 pub total-more : (f : ℕ → ℕ) (m n : ℕ) → m ≤ n → total (stretch 0 m) f ≤ total (stretch 0 n) f
 total-more f m n h =

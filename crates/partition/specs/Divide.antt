@@ -38,10 +38,6 @@ unfoldable pub tooHeavy : ℕ → List ℕ → Bool
 unfolding some-entry
 tooHeavy B w = some-entry (λ (v : ℕ). ltb B v) w
 
--- a net by its two tables, as it is lent
-abbrev pub netOfTables : List ℕ → List ℕ → Net
-netOfTables p w = record { parents = p; weights = w }
-
 -- the tables that Divide writes
 pub record Tables : Type 0 where
   pub carried : List ℕ

@@ -8,7 +8,8 @@ ghost use lib.ListN.{length, getD, replicate};
 ghost use Rattle.game.specs.Game.{absent};
 ghost use Rattle.refusal.specs.Answer.{number};
 ghost use Rattle.refusal.specs.Outcome.{ended};
-ghost use Rattle.partition.specs.Divide.{outside, badLimits, tooHeavy, tables, netOfTables, divided, wrongTables, divideRefusal, divideOutcome};
+ghost use Rattle.game.specs.Net.{net};
+ghost use Rattle.partition.specs.Divide.{outside, badLimits, tooHeavy, tables, divided, wrongTables, divideRefusal, divideOutcome};
 ghost use Rattle.partition.specs.Pack.{lightest};
 ghost use Rattle.partition.specs.Work.{Divisible, Hanging, Climbed, Family, Trimmed, Brood, Lightened, Cuts, Packable, Packed, Topped, Grouped, Assigned, Fitting};
 use net::Forest;
@@ -325,7 +326,7 @@ pub fn cut_and_pack(
     requires { ⌜ Fitting (length (now parents)) (tables (now carried) (now top) (now block) (now «block_loads»)) ⌝ }
     ensures { λ _. ⌜
         tables (now (carried .exit)) (now (top .exit)) (now (block .exit)) (now («block_loads» .exit))
-        ≡ divided (netOfTables (now (parents .entry)) (now (weights .entry))) bound (length (now («block_loads» .entry)))
+        ≡ divided (net (now (parents .entry)) (now (weights .entry))) bound (length (now («block_loads» .entry)))
         ⌝ }
 {
     group(parents, weights, bound, carried, top, block);
@@ -344,7 +345,7 @@ fn wrong_tables(
 ) -> bool
     ensures { λ r. ⌜
         r
-        ≡ wrongTables (netOfTables (now (parents .entry)) (now (weights .entry))) blocks
+        ≡ wrongTables (net (now (parents .entry)) (now (weights .entry))) blocks
         (tables (now (carried .entry)) (now (top .entry)) (now (block .entry)) (now («block_loads» .entry)))
         ⌝ }
 {
@@ -369,7 +370,7 @@ fn divide_refusal(
 ) -> u32
     ensures { λ r. ⌜
         r
-        ≡ divideRefusal (netOfTables (now (parents .entry)) (now (weights .entry))) bound blocks
+        ≡ divideRefusal (net (now (parents .entry)) (now (weights .entry))) bound blocks
         (tables (now (carried .entry)) (now (top .entry)) (now (block .entry)) (now («block_loads» .entry)))
         ⌝ }
 {
@@ -406,7 +407,7 @@ pub fn divide(
 ) -> Answer
     ensures { λ r. ⌜
         ended (number r) (tables (now (carried .exit)) (now (top .exit)) (now (block .exit)) (now («block_loads» .exit)))
-        ≡ divideOutcome (netOfTables (now (parents .entry)) (now (weights .entry))) bound blocks
+        ≡ divideOutcome (net (now (parents .entry)) (now (weights .entry))) bound blocks
         (tables (now (carried .entry)) (now (top .entry)) (now (block .entry)) (now («block_loads» .entry)))
         ⌝ }
 {

@@ -60,7 +60,7 @@ module _ {p : List ℕ} (s : Sound p) (n : length p ≤ absent) where
           next (sound-parent s x (parent-inside p x d) d .0) r
 
   -- ancestors rise
-  ancestors-rising : (x : ℕ) → Rising x (ancestors p x)
+  pub ancestors-rising : (x : ℕ) → Rising x (ancestors p x)
   unfolding ancestors
   ancestors-rising x = climb-rising (length p) x
 

@@ -3,6 +3,7 @@ pub mod Children
 pub mod Paths
 pub mod Counts
 pub mod Growing
+pub mod Higher
 pub mod SameEdges
 pub mod Climbing
 pub mod Slots

@@ -13,27 +13,11 @@ use lib.ListN.{length, getD, set, take, drop, length-set}
 use lib.Seq.{getD-set-same, getD-set-other, set-getD, drop-set-lt, take-nil}
 use Rattle.game.specs.Game.{absent}
 use Rattle.game.specs.Table.{sum, tabulate}
-use Rattle.game.proofs.Tables.{sum-drop, sum-end, tabulate-unique}
+use Rattle.game.proofs.Tables.{sum-drop, sum-end, sum-drop-set, sum-drop-entry, tabulate-unique}
 use Rattle.game.proofs.Sound.{Sound, sound-parent, getD-default}
 use Rattle.refusal.specs.Limits.{maxEdges}
 use Rattle.reach.specs.Balance.{entryOf, childSum, Balanced, Summable, Subtrees}
 use Rattle.reach.proofs.Children.{childSum-here, childSum-other, childSum-ext}
-
-sum-drop-set : (t : List ℕ) (j q v : ℕ) → j ≤ q → q < length t → sum (drop j (set t q v)) + getD t q 0 ≡ sum (drop j t) + v
-unfolding sum
-sum-drop-set [] j q v h l = absurd (not-suc-le-zero l)
-sum-drop-set (x ∷ t) zero zero v h l = omega arith
-sum-drop-set (x ∷ t) zero (suc q) v h l = omega (arith, sum-drop-set t 0 q v (omega arith) (le-of-suc-le-suc l))
-sum-drop-set (x ∷ t) (suc j) zero v h l = absurd (omega arith)
-sum-drop-set (x ∷ t) (suc j) (suc q) v h l = sum-drop-set t j q v (le-of-suc-le-suc h) (le-of-suc-le-suc l)
-
-entry-drop : (t : List ℕ) (j q : ℕ) → j ≤ q → getD t q 0 ≤ sum (drop j t)
-unfolding sum
-entry-drop [] j q h = omega arith
-entry-drop (x ∷ t) zero zero h = omega arith
-entry-drop (x ∷ t) zero (suc q) h = omega (arith, entry-drop t 0 q (omega arith))
-entry-drop (x ∷ t) (suc j) zero h = absurd (omega arith)
-entry-drop (x ∷ t) (suc j) (suc q) h = entry-drop t j q (le-of-suc-le-suc h)
 
 sum-take : (t : List ℕ) (i : ℕ) → sum (take (suc i) t) ≡ sum (take i t) + getD t i 0
 unfolding sum
@@ -179,7 +163,7 @@ module _ {p own less t : List ℕ} {i : ℕ} (v : ℕ) (s : Sound p) (n : length
 module _ {p own less t : List ℕ} {i : ℕ} (d : Summed p own less i t) where
   -- what the parent has and what is added there are within the sum of all shares
   summed-fits : {q : ℕ} → i < q → i < length t → getD t i 0 + getD t q 0 ≤ sum own
-  summed-fits {q} h l = omega (arith, d .total, sum-drop t i l, entry-drop t (i + 1) q (omega arith))
+  summed-fits {q} h l = omega (arith, d .total, sum-drop t i l, sum-drop-entry t (i + 1) q (omega arith))
 
   -- a balanced function is what the table has below i
   module _ {f : ℕ → ℕ} (b : Balanced p own less f) where

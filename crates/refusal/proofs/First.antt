@@ -96,6 +96,10 @@ pub odd-list : (xs : List ℕ) → (length xs % 2 ≡ 0 → ⊥) → odd xs ≡ 
 unfolding odd
 odd-list xs d = rw (ne-eqb (length xs % 2) 0 d)
 
+pub list-even : (xs : List ℕ) → odd xs ≡ false → length xs % 2 ≡ 0
+unfolding odd
+list-even xs e = eqb-true (length xs % 2) 0 (not-false (eqb (length xs % 2) 0) e)
+
 -- a count that is not refused
 pub good-count : (n : ℕ) → badCount n ≡ false → (0 < n) × (n ≤ maxVertices)
 unfolding badCount

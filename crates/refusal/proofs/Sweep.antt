@@ -7,17 +7,14 @@ use Prim.Native.Nat.{ℕ, _+_, _≤_, _<_}
 use lib.Dec.{eqb, leb}
 use lib.ListN.{length, getD, drop}
 use Rattle.game.specs.Edge.{Edge, _─_, edges}
+use Rattle.game.proofs.Bools.{or-neither}
 use Rattle.game.proofs.Edges.{edges-drop, edges-end}
 use Rattle.refusal.specs.Refusal.{fault, firstFault, isFaulty, someFault}
 use Rattle.refusal.proofs.Fault.{first-fault-on}
 
-neither : (p q : Bool) → (p || q) ≡ false → (p ≡ false) × (q ≡ false)
-neither true q e = absurd (false≢true (sym e))
-neither false q e = (refl, e)
-
 no-number : (p q r : Bool) → (p || q || r) ≡ false → _≡_ {A = ℕ} (cond (p || q) 4 (cond r 5 0)) 0
 no-number p q r e =
-    let k = neither (p || q) r e in
+    let k = or-neither (p || q) r e in
     rw (k .0, k .1)
 
 faultless-edge : (n : ℕ) (e : Edge) → isFaulty n e ≡ false → fault n e ≡ 0
@@ -28,7 +25,7 @@ pub none-first : (n : ℕ) (es : List Edge) → someFault n es ≡ false → fir
 unfolding someFault firstFault
 none-first n [] e = refl
 none-first n (x ∷ es) e =
-    let k = neither (isFaulty n x) (someFault n es) e in
+    let k = or-neither (isFaulty n x) (someFault n es) e in
     first-fault-on n x es (faultless-edge n x (k .0)) ∙ none-first n es (k .1)
 
 -- The scan at i: what it found so far and what is left decide.

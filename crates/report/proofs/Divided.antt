@@ -1,17 +1,19 @@
 -- The tables of a divided net, by their rules: tops of the groups that its cuts leave, and a block for each top.
 -- Assumes nothing.
-use mathlib.Core.Path.{_≡_, refl, ap, _∙_}
+use mathlib.Core.Path.{_≡_, refl, sym, ap, _∙_}
 use mathlib.Core.Bool.{Bool}
 use Prim.Native.Nat.{ℕ, _<_}
 use lib.Dec.{eqb}
 use lib.ListN.{length, getD}
 use Rattle.game.specs.Table.{tabulate}
+use Rattle.game.specs.Edge.{Edge, lower}
 use Rattle.game.specs.Net.{Net}
 use Rattle.game.proofs.Tables.{tabulate-entry, tabulate-ext}
 use Rattle.partition.specs.Cut.{cut, top}
 use Rattle.partition.specs.Pack.{blockOf}
 use Rattle.partition.specs.Divide.{divided}
 use Rattle.partition.proofs.Packing.{block-inside}
+use Rattle.report.specs.Figures.{edgeBlock}
 
 module _ (net : Net) (B k : ℕ) where
   pub cuts : ℕ → Bool
@@ -45,3 +47,11 @@ module _ (net : Net) (B k : ℕ) where
   pub block-below : 0 < k → (x : ℕ) → x < length (net .parents) → getD (divided net B k .block) x 0 < k
   unfolding packed
   block-below some x h = rw (block-entry x h) (block-inside _ _ k some (top (net .parents) cuts x))
+
+  -- the block of an edge holds the group of its lower end
+  pub edge-block-group : (e : Edge) (u : ℕ) → lower e < length (net .parents) → u < length (net .parents)
+      → getD (divided net B k .top) u 0 ≡ getD (divided net B k .top) (lower e) 0
+      → getD (divided net B k .block) u 0 ≡ edgeBlock (divided net B k .block) e
+  unfolding edgeBlock
+  edge-block-group e u h i q =
+      block-entry u i ∙ ap packed (sym (top-entry u i) ∙ q ∙ top-entry (lower e) h) ∙ sym (block-entry (lower e) h)

@@ -14,7 +14,7 @@ use Rattle.game.proofs.Edges.{edges-length}
 use Rattle.game.proofs.Bools.{or-neither}
 use Rattle.refusal.specs.Limits.{maxEdges}
 use Rattle.refusal.specs.Refusal.{badCount, wrongLength, odd, firstFault}
-use Rattle.refusal.proofs.First.{first-none, given-none, good-count, length-right}
+use Rattle.refusal.proofs.First.{first-none, given-none, good-count, length-right, list-even}
 use Rattle.forest.specs.Work.{workOf, badWork}
 use Rattle.forest.proofs.Rooms.{good-work}
 use Rattle.partition.specs.Divide.{tables, wrongTables, divideRefusal}
@@ -82,7 +82,7 @@ lengths-right of k xs was e =
       ends = g .0;
       jump = g .1;
       lower = g .2;
-      even = eqb-true (length xs % 2) 0 (not-false (eqb (length xs % 2) 0) (a .1));
+      even = list-even xs (a .1);
     }
 
 -- what is known where nothing was refused before the comparison

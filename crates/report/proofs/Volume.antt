@@ -22,7 +22,7 @@ use Rattle.game.specs.Edge.{Edge, lower}
 use Rattle.game.specs.Game.{absent, forest}
 use Rattle.game.specs.Tree.{ancestors, under}
 use Rattle.game.specs.Net.{Net, netOf, enters, reach}
-use Rattle.game.proofs.Conn.{Linked, forth, back}
+use Rattle.game.proofs.Conn.{Linked}
 use Rattle.game.proofs.Bools.{or-left, or-right, both-and}
 use Rattle.game.proofs.Tables.{member-in, in-member, tabulate-entry}
 use Rattle.game.proofs.Proper.{Proper}
@@ -35,7 +35,7 @@ use Rattle.partition.specs.Cut.{top}
 use Rattle.partition.proofs.Lists.{test-cases, stretch, stretch-in, in-stretch, sum-entry-in, sum-nought}
 use Rattle.partition.proofs.Sums.{only, total, total-add, total-swap}
 use Rattle.partition.proofs.Groups.{top-or, top-cut, top-of, top-between}
-use Rattle.reach.proofs.Counts.{entry-some}
+use Rattle.reach.proofs.Higher.{linked-enters}
 use Rattle.report.specs.Figures.{blocksAt, different, blockCount, isCut, bound, volume, boundOf, volumeOf}
 use Rattle.report.proofs.Blocks.{block-at}
 use Rattle.report.proofs.Divided.{cuts, packed, divided-top, divided-block}
@@ -53,14 +53,6 @@ under-top p cuts x =
 -- who has an ancestor has a parent
 ancestor-parent : (p : List ℕ) → length p ≤ absent → (x : ℕ) {y : ℕ} → List·Memᴰ y (ancestors p x) → getD p x absent ≢ absent
 ancestor-parent p u x m = let l = link-inv p (ancestor-above u m .link) in λ e. l .2 (sym (l .1) ∙ e)
-
--- an edge between y and a vertex under t counts y in the reach of t
-linked-enters : (p : List ℕ) (t : ℕ) {es : List Edge} {x y : ℕ} → Linked es x y → under p t x ≡ true → some-entry (enters p t y) es ≡ true
-unfolding enters
-linked-enters p t {x = x} {y = y} (forth m) h =
-    entry-some (enters p t y) m (or-right (eqb x y && under p t y) (eqb y y && under p t x) (both-and (eqb y y) (under p t x) (eq-eqb y y refl) h))
-linked-enters p t {x = x} {y = y} (back m) h =
-    entry-some (enters p t y) m (or-left (eqb y y && under p t x) (eqb x y && under p t y) (both-and (eqb y y) (under p t x) (eq-eqb y y refl) h))
 
 -- Tops and blocks as tables, for any set of cuts and any packing: a block is given to each top.
 module _ {n : ℕ} {es : List Edge} (small : n ≤ absent) (proper : Proper n es) (cuts : ℕ → Bool) (packed : ℕ → ℕ) (k : ℕ) where

@@ -1,7 +1,8 @@
 use native.Mathlib.Omega.{arith}
 use mathlib.Core.Path.{sym, _∙_}
 use borrow.Author.Needs.{needs}
-use Rattle.partition.proofs.Refused.{count-not, tables-not, damaged-as, refused-count, refused-tables, refused-limits, refused-damaged, refused-heavy, refused-not}
+use Rattle.refusal.proofs.First.{good-count}
+use Rattle.partition.proofs.Refused.{tables-not, damaged-as, refused-count, refused-tables, refused-limits, refused-damaged, refused-heavy, refused-not}
 use Rattle.partition.proofs.divide_refusal.Statement.{statement}
 use Rattle.partition.proofs.divide_refusal.Tie as tie
 
@@ -39,7 +40,7 @@ of-requires : tie.Need-of-requires
 of-requires c κs =
     omega (
       arith,
-      count-not _ (sym (c .before .before .before .before .before .bad-count .ensures) ∙ c .before .before .before .before .if1 .left),
+      good-count _ (sym (c .before .before .before .before .before .bad-count .ensures) ∙ c .before .before .before .before .if1 .left) .1,
       tables-not _ _ _ (sym (c .before .before .before .wrong-tables .ensures) ∙ c .before .before .if2 .left) .weights,
     )
 

@@ -1,6 +1,7 @@
 use mathlib.Core.Path.{sym, _∙_}
 use borrow.Author.Needs.{needs}
-use Rattle.relabel.proofs.Refused.{bad-count-false, refused-count, refused-odd, refused-out, refused-inverse, refused-order, refused-edge}
+use Rattle.refusal.proofs.First.{good-count}
+use Rattle.relabel.proofs.Refused.{refused-count, refused-odd, refused-out, refused-inverse, refused-order, refused-edge}
 use Rattle.relabel.proofs.relabel_refusal.Statement.{statement}
 use Rattle.relabel.proofs.relabel_refusal.Tie as tie
 
@@ -21,7 +22,7 @@ returns-4 c =
     sym (refused-inverse _ _ _ _ (sym (c .before .before .before .before .bad-count .ensures) ∙ c .before .before .before .if1 .left) (c .before .before .if2 .left) (c .before .if3 .left) (c .if4 .taken))
 
 bad-order-requires : tie.Need-bad-order-requires
-bad-order-requires c κs = bad-count-false _ (sym (c .before .before .before .before .bad-count .ensures) ∙ c .before .before .before .if1 .left)
+bad-order-requires c κs = good-count _ (sym (c .before .before .before .before .bad-count .ensures) ∙ c .before .before .before .if1 .left) .1
 
 returns-5 : tie.Need-returns-5
 returns-5 c =

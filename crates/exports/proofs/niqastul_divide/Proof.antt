@@ -1,0 +1,37 @@
+use Rattle.exports.proofs.Answered.{ended-as}
+use borrow.Author.Needs.{needs}
+use Rattle.exports.proofs.niqastul_divide.Statement.{statement}
+use Rattle.exports.proofs.niqastul_divide.Tie as tie
+
+divide-requires : tie.Need-divide-requires
+divide-requires c κs = search needs
+
+code-requires : tie.Need-code-requires
+code-requires c κs = search needs
+
+same-length : tie.Need-same-length
+same-length c = search needs
+
+same-length-2 : tie.Need-same-length-2
+same-length-2 c = search needs
+
+same-length-3 : tie.Need-same-length-3
+same-length-3 c = search needs
+
+same-length-4 : tie.Need-same-length-4
+same-length-4 c = search needs
+
+returns : tie.Need-returns
+returns c = ended-as (c .code .ensures) (c .before .before .before .before .before .before .before .before .before .divide .ensures)
+
+pub niqastul-divide-spec : {M : Type 1} → statement M
+niqastul-divide-spec =
+    tie.close
+    (tie.spec
+    divide-requires
+    code-requires
+    same-length
+    same-length-2
+    same-length-3
+    same-length-4
+    returns)

@@ -1,0 +1,2 @@
+-- What a report hands to its caller.
+pub mod Reported
