@@ -1,47 +1,41 @@
 -- A scan of a table of parents, and what a net without damage is.
 -- Assumes nothing.
 use mathlib.Core.Path.{_≡_, refl, sym, _∙_}
-use mathlib.Core.Bool.{Bool, true, false, not, _||_}
+use mathlib.Core.Bool.{Bool, true, false, not, _&&_, _||_, and-assoc, and-true}
 use mathlib.Core.List.{List, [], _∷_}
-use Prim.Native.Nat.{ℕ, _+_, _≤_, _<_}
+use Prim.Native.Nat.{ℕ, suc, _+_, _≤_, _<_}
+use native.Mathlib.Omega.{arith}
 use native.Mathlib.Numerals.{add-one}
-use lib.Dec.{eqb, ltb}
+use lib.Dec.{ltb}
 use lib.ListN.{length, getD, drop, drop-of-length-le}
 use lib.Seq.{drop-cons}
-use borrow.Author.Tests.{ltb-false, eq-eqb, ne-eqb, lt-ltb, le-ltb}
-use Rattle.game.specs.Game.{absent}
+use borrow.Author.Tests.{ltb-false}
 use Rattle.game.specs.Tree.{sound, soundFrom, soundParent}
 use Rattle.game.specs.Net.{Net, total}
 use Rattle.game.proofs.Sound.{Sound, sound-true}
 use Rattle.refusal.specs.Limits.{maxTotal}
 use Rattle.net.specs.Damage.{damagedBy, damaged}
 
-module _ (n i q : ℕ) where
-  pub parent-none : q ≡ absent → soundParent n i q ≡ true
-  unfolding soundParent
-  parent-none e = rw (eq-eqb q absent e)
+-- The scan at i: what was found of the entries before it, and those that are left, decide.
+pub record Scanned (p : List ℕ) (i : ℕ) (found : Bool) : Type 0 where
+  pub inside : i ≤ length p
+  pub rest : (found && soundFrom (length p) i (drop i p)) ≡ sound p
 
-  pub parent-some : (q ≡ absent → ⊥) → i < q → soundParent n i q ≡ ltb q n
-  unfolding soundParent
-  parent-some d h = rw (ne-eqb q absent d, lt-ltb i q h)
+pub scan-start : (p : List ℕ) → Scanned p 0 true
+unfolding sound
+scan-start p = record { inside = omega arith; rest = refl }
 
-  pub parent-low : (q ≡ absent → ⊥) → q ≤ i → soundParent n i q ≡ false
-  unfolding soundParent
-  parent-low d h = rw (ne-eqb q absent d, le-ltb i q h)
+pub scan-on : {p : List ℕ} {n i rank : ℕ} {found here : Bool} → Scanned p i found → i < length p → n ≡ length p → rank ≡ i
+    → here ≡ soundParent n rank (getD p i 0) → Scanned p (i + 1) (found && here)
+unfolding soundFrom
+scan-on {p} {i = i} {found = found} s h e r q = record { inside = omega arith; rest = rw (add-one, q, e, r) (and-assoc found _ _ ∙ sym split ∙ s .rest) }
+  where
+    split : (found && soundFrom (length p) i (drop i p)) ≡ (found && (soundParent (length p) i (getD p i 0) && soundFrom (length p) (suc i) (drop (suc i) p)))
+    split = rw (drop-cons p i 0)
 
--- the scan at i, with the entry there sound, not sound, or none left
-module _ (p : List ℕ) (n i : ℕ) where
-  pub scan-on : i < length p → soundParent n i (getD p i 0) ≡ true → soundFrom n (i + 1) (drop (i + 1) p) ≡ soundFrom n i (drop i p)
-  unfolding soundFrom
-  scan-on h e = rw (add-one, drop-cons p i 0, e)
-
-  pub scan-stop : i < length p → soundParent n i (getD p i 0) ≡ false → soundFrom n i (drop i p) ≡ false
-  unfolding soundFrom
-  scan-stop h e = rw (drop-cons p i 0, e)
-
-  pub scan-end : length p ≤ i → soundFrom n i (drop i p) ≡ true
-  unfolding soundFrom
-  scan-end h = rw (drop-of-length-le p h)
+pub scan-end : {p : List ℕ} {i : ℕ} {found : Bool} → Scanned p i found → length p ≤ i → found ≡ sound p
+unfolding soundFrom
+scan-end {p} {i} {found} s h = sym (rw (drop-of-length-le p h) (and-true found)) ∙ s .rest
 
 -- a net that is not damaged has a sound table and a total within the limit
 pub undamaged : (p : List ℕ) (t : ℕ) → damagedBy p t ≡ false → Sound p × (t ≤ maxTotal)

@@ -1,7 +1,7 @@
 // A net, that is an elimination forest with a weight on each vertex: its type, its constants, and what damages it.
 // A net's tables are lent as two slices, parents and weights; its vertex count is the length of its parents.
 ghost use mathlib.Core.Path.{_≡_};
-ghost use Prim.Native.Nat.{_≤_};
+ghost use Prim.Native.Nat.{_^_, _≤_, _<_};
 ghost use lib.ListN.{length};
 ghost use Rattle.game.specs.Game.{absent};
 ghost use Rattle.game.specs.Table.{sum};
@@ -38,6 +38,7 @@ impl Forest {
 
     // Refusal 30, of the net whose summary this is.
     pub fn is_damaged(self, parents: &[u32]) -> bool
+        requires { ⌜ length (now parents) ≤ maxVertices ⌝ }
         ensures { λ r. ⌜ r ≡ damagedBy (now (parents .entry)) (self .total) ⌝ }
     {
         if is_sound(parents) {
@@ -54,30 +55,34 @@ fn wide(x: u32) -> u64
     x as u64
 }
 
-// Whether p may be the parent of the vertex at rank i among n: it is absent or stands above i, within the table.
-fn is_parent(n: usize, i: usize, p: u32) -> bool
-    ensures { λ r. ⌜ r ≡ soundParent n i p ⌝ }
+fn narrow(x: usize) -> u32
+    requires { ⌜ x < 2 ^ 32 ⌝ }
+    ensures { λ r. ⌜ r ≡ x ⌝ }
 {
-    if p == Forest::ABSENT {
-        return true;
-    }
-    let q = p as usize;
-    if i < q { q < n } else { false }
+    x as u32
 }
 
-// Whether each parent is absent or stands above its vertex, within the table.
+// Whether p may be the parent of the vertex at rank i among n: it is absent or stands above i, within the table. There is no branch
+// in it, so that a scan takes several vertices at once.
+fn is_parent(n: u32, i: u32, p: u32) -> bool
+    ensures { λ r. ⌜ r ≡ soundParent n i p ⌝ }
+{
+    (p == Forest::ABSENT) | ((i < p) & (p < n))
+}
+
+// Whether each parent is absent or stands above its vertex, within the table: a scan to the end, which is quicker than one that stops.
 pub fn is_sound(parents: &[u32]) -> bool
+    requires { ⌜ length (now parents) ≤ maxVertices ⌝ }
     ensures { λ r. ⌜ r ≡ sound (now (parents .entry)) ⌝ }
 {
-    let n = parents.len();
+    let n = narrow(parents.len());
+    let mut sound = true;
     let mut i = 0;
-    while i < n {
-        if !is_parent(n, i, parents[i]) {
-            return false;
-        }
+    while i < parents.len() {
+        sound = sound & is_parent(n, narrow(i), parents[i]);
         i += 1;
     }
-    true
+    sound
 }
 
 // The sum of a table of weights.

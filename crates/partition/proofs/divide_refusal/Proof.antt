@@ -45,7 +45,7 @@ of-requires c κs =
     )
 
 is-damaged-requires : tie.Need-is-damaged-requires
-is-damaged-requires c κs = search needs
+is-damaged-requires c κs = good-count _ (sym (c .before .before .before .before .before .before .bad-count .ensures) ∙ c .before .before .before .before .before .if1 .left) .1
 
 returns-4 : tie.Need-returns-4
 returns-4 c =

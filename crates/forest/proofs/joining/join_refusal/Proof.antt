@@ -79,7 +79,7 @@ of-requires : tie.Need-of-requires
 of-requires c κs = omega (arith, c .before .before .before .before .if3 .left, good-count _ (sym (c .before .before .before .before .before .before .before .before .bad-count .ensures) ∙ c .before .before .before .before .before .before .before .if1 .left) .1)
 
 is-damaged-requires : tie.Need-is-damaged-requires
-is-damaged-requires c κs = search needs
+is-damaged-requires c κs = good-count _ (sym (c .before .before .before .before .before .before .before .before .before .bad-count .ensures) ∙ c .before .before .before .before .before .before .before .before .if1 .left) .1
 
 returns-7 : tie.Need-returns-7
 unfolding joinRefusal
@@ -97,7 +97,7 @@ of-requires-2 : tie.Need-of-requires-2
 of-requires-2 c κs = omega (arith, c .before .before .before .before .before .before .if4 .left, good-count _ (sym (c .before .before .before .before .before .before .before .before .before .bad-count2 .ensures) ∙ c .before .before .before .before .before .before .before .before .if2 .left) .1)
 
 is-damaged-requires-2 : tie.Need-is-damaged-requires-2
-is-damaged-requires-2 c κs = search needs
+is-damaged-requires-2 c κs = good-count _ (sym (c .before .before .before .before .before .before .before .before .before .before .bad-count2 .ensures) ∙ c .before .before .before .before .before .before .before .before .before .if2 .left) .1
 
 returns-8 : tie.Need-returns-8
 unfolding joinRefusal

@@ -39,7 +39,7 @@ of-requires : tie.Need-of-requires
 of-requires c κs = omega (arith, c .before .before .before .before .before .before .before .before .pre (c .before .before .if2 .left), good-count _ (sym (c .before .before .before .before .bad-count .ensures) ∙ c .before .before .before .if1 .left) .1)
 
 is-damaged-requires : tie.Need-is-damaged-requires
-is-damaged-requires c κs = search needs
+is-damaged-requires c κs = good-count _ (sym (c .before .before .before .before .before .bad-count .ensures) ∙ c .before .before .before .before .if1 .left) .1
 
 returns-4 : tie.Need-returns-4
 unfolding earlyRefusal
