@@ -1,4 +1,4 @@
-"""The bindings' own tests, and the examples in C, Python and Rust: the same files give the same forest, that of the oracle."""
+"""The bindings' own tests, and the examples in C, Python and Rust: the same files give the same blocks, those of the oracle."""
 
 import os
 import random
@@ -10,8 +10,7 @@ import tempfile
 import nets
 from harness import test
 from library import ROOT
-from oracle import calls
-from oracle.forest import ABSENT, loads_of, parents_of, ties_of
+from oracle import blocks, calls
 
 ENVIRONMENT = os.environ | {"CARGO_TARGET_DIR": str(ROOT / "target" / "cargo")}
 
@@ -33,16 +32,6 @@ def rust_binding(t):
     t.true(sum(int(passed) for passed in re.findall(r"(\d+) passed", shown)) >= 11, shown)
 
 
-def forest_of(order, edges):
-    """What the examples print."""
-    n = len(order)
-    number, flat = calls.translate(order, edges, edges)
-    assert number == 0
-    ties = ties_of(flat)
-    rows = zip(range(n), order, ("-" if p == ABSENT else p for p in parents_of(n, ties)), loads_of(n, ties))
-    return "".join(" ".join(map(str, row)) + "\n" for row in rows)
-
-
 @test(at_least=60)
 def examples(t):
     """The C example is built against an installed library, by pkg-config, as C and as C++."""
@@ -50,20 +39,26 @@ def examples(t):
         printed("make", "install", f"PREFIX={folder}/usr", cwd=ROOT)
         found = subprocess.run(["pkg-config", "--cflags", "--libs", "niqastul"], check=True, capture_output=True, text=True,
                                env={"PATH": os.environ["PATH"], "PKG_CONFIG_PATH": f"{folder}/usr/lib/pkgconfig"}).stdout.split()
-        source = str(ROOT / "examples" / "forest.c")
+        source = str(ROOT / "examples" / "blocks.c")
         printed("gcc", "-std=c99", "-Wall", "-Wextra", "-Werror", source, *found, f"-Wl,-rpath,{folder}/usr/lib", "-o", f"{folder}/shared")
         static = [word for word in found if word != "-lniqastul"] + ["-l:libniqastul.a"]
         printed("gcc", source, *static, "-o", f"{folder}/static")
-        printed("cargo", "build", "--offline", "--quiet", "--example", "forest", cwd=ROOT / "bindings" / "rust")
-        programs = [[f"{folder}/shared"], [f"{folder}/static"], [str(ROOT / "target" / "cargo" / "debug" / "examples" / "forest")],
-                    [sys.executable, str(ROOT / "bindings" / "python" / "forest.py")]]
+        printed("cargo", "build", "--offline", "--quiet", "--example", "blocks", cwd=ROOT / "bindings" / "rust")
+        programs = [[f"{folder}/shared"], [f"{folder}/static"], [str(ROOT / "target" / "cargo" / "debug" / "examples" / "blocks")],
+                    [sys.executable, str(ROOT / "bindings" / "python" / "blocks.py")]]
         for seed in range(15):
             rng = random.Random(seed)
             n = rng.randrange(1, 40)
             order, edges = rng.sample(range(n), n), nets.flat(nets.ties(rng, n, rng.choice(nets.SHAPES)))
-            paths = [f"{folder}/marks.ord", f"{folder}/ties.rec"]
-            for path, numbers in zip(paths, (order, edges)):
-                with open(path, "wb") as file:
-                    file.write(bytes(byte for number in numbers for byte in calls.word(number)))
+            files = {"marks.ord": order, "ties.rec": edges, "want.rec": [len(edges) // 2 + 1 - rng.randrange(len(edges) // 4 + 1), rng.randrange(1, 5)]}
+            data = {name: bytes(byte for number in numbers for byte in calls.word(number)) for name, numbers in files.items()}
+            for name in files:
+                with open(f"{folder}/{name}", "wb") as file:
+                    file.write(data[name])
             for program in programs:
-                t.same(printed(*program, *paths).stdout, forest_of(order, edges), program, seed)
+                ran = subprocess.run([*program, *(f"{folder}/{name}" for name in files)], capture_output=True, text=True, env=ENVIRONMENT)
+                wanted = blocks.run(*data.values())
+                if wanted.startswith("refused"):
+                    t.true(ran.returncode != 0 and wanted.split()[1] in ran.stdout + ran.stderr, program, seed, ran.stderr)
+                else:
+                    t.same(ran.stdout, wanted, program, seed)
