@@ -52,13 +52,15 @@ static struct tables make_tables(size_t n, size_t m)
 {
     return (struct tables){room(n, 4), room(n, 4), room(n, 4), room(n, 4), room(n + (m > n ? m : n), 4), room(n, 4), room(n, 4),
                            room(2 * m, 4), room(n + 1, sizeof(int)), room(m, sizeof(int)), room(8 * n, 1),
-                           room(n, 4), room(n, 4), room(n, 4), room(MAX_BLOCKS, 4)};
+                           room(n, 4), room(n, 4), room(n, 4), room(MAX_BLOCKS, 4),
+                           room(n, 4), room(n, 4), room(m, 4)};
 }
 
 static void free_tables(struct tables *t)
 {
     void *all[] = {t->parents, t->weights, t->ends,  t->jump,    t->lower, t->parents2, t->weights2,   t->ranks,
-                   t->start,   t->row,     t->bytes, t->carried, t->top,   t->block,    t->block_loads};
+                   t->start,   t->row,     t->bytes, t->carried, t->top,   t->block,    t->block_loads, t->reach,
+                   t->block_count, t->edge_blocks};
     for (size_t i = 0; i < sizeof all / sizeof *all; i++)
         free(all[i]);
 }
@@ -101,6 +103,15 @@ static void divide(struct tables *t, size_t n, uint32_t limit, uint32_t blocks)
          "divide refused");
 }
 
+static void report(const struct net *net, struct tables *t, uint32_t limit, uint32_t blocks, uint64_t *bound, uint64_t *volume)
+{
+    size_t n = net->vertices, m = net->edges;
+    must(niqastul_report(t->parents, n, t->weights, n, limit, blocks, net->list, 2 * m, t->carried, n, t->top, n, t->block, n,
+                         t->block_loads, blocks, t->edge_blocks, m, t->reach, n, t->block_count, n, t->parents2, n, t->weights2, n,
+                         t->ends, n, t->jump, n, t->lower, n + m, bound, volume) == 0,
+         "report refused");
+}
+
 /* A limit of a quarter of a block's even share, so that the groups can be packed evenly, or the largest weight. */
 static uint32_t limit_for(uint32_t blocks, const uint32_t *weights, size_t n)
 {
@@ -139,7 +150,7 @@ static void measure(const char *family, const struct net *net)
     double grow, peer, triplets, plain, added, one_pass, joined, plain_joined, relabelled, plain_relabelled;
     double saved, plain_saved, was_read, plain_was_read;
     static const uint32_t blocks[] = {16, MAX_BLOCKS};
-    double divided[] = {1e300, 1e300}, plain_divided[] = {1e300, 1e300};
+    double divided[] = {1e300, 1e300}, plain_divided[] = {1e300, 1e300}, counted = 1e300, reported = 1e300, plain_reported = 1e300;
     grow = peer = triplets = plain = added = one_pass = joined = plain_joined = relabelled = plain_relabelled = 1e300;
     saved = plain_saved = was_read = plain_was_read = 1e300;
 
@@ -184,6 +195,17 @@ static void measure(const char *family, const struct net *net)
                  "the library and plain C disagree on dividing");
         }
 
+        uint32_t limit = limit_for(blocks[0], t.weights, n);
+        uint64_t bound, volume, plain_bound, plain_volume;
+        int *counts = NULL;
+        TIME(counted, , counts = suitesparse_counts(net, parents, &t));
+        TIME(plain_reported, , plain_report(net, limit, blocks[0], &t, &plain_bound, &plain_volume));
+        TIME(reported, , report(net, &t, limit, blocks[0], &bound, &volume));
+        must(bound == plain_bound && volume == plain_volume && volume <= bound, "the library and plain C disagree on a report");
+        for (size_t x = 0; x < n; x++)
+            must((uint32_t)counts[x] == t.reach[x] + 1, "the library and SuiteSparse disagree on reaches");
+        free(counts);
+
         TIME(plain_relabelled, , plain_relabel(net, net->order, t.ranks, t.ends));
         TIME(relabelled, , relabel(net, &t));
     }
@@ -203,6 +225,8 @@ static void measure(const char *family, const struct net *net)
         row(k ? "divide 1000" : "divide 16", family, net);
         printf("\tniqastul\t%.4f\tplain C\t%.4f\tone pass\t%.4f\n", divided[k], plain_divided[k], one_pass);
     }
+    row("report", family, net);
+    printf("\tniqastul\t%.4f\tSuiteSparse\t%.4f\tplain C\t%.4f\n", reported, peer + counted, plain_reported);
     fflush(stdout);
     free(first), free(first_weights), free(second), free(second_weights), free(most), free(most_weights), free(parents);
     free_tables(&t);

@@ -15,6 +15,7 @@ MEASURED = {
     "read": ("Reading", "read", "plain C"),
     "divide 16": ("Dividing into 16 blocks", "divide-16", "plain C"),
     "divide 1000": ("Dividing into 1,000 blocks", "divide-1000", "plain C"),
+    "report": ("Reporting on a division into 16 blocks", "report", "plain C"),
 }
 
 PEERS = """Milliseconds of processor time, the best of 15 rounds in each of which every contender runs once. `niqastul` is the whole public
@@ -22,7 +23,9 @@ call, with its refusals, weights and cleared work tables. `SuiteSparse` builds c
 exist already and calls CXSparse's `cs_etree`; `cs_compress` goes through its triplet form. Neither checks its input or counts
 weights. `plain C` is the bare algorithm of the library, compiled by gcc -O3. `one pass` reads the net's two tables once. SuiteSparse
 can neither add nor join: its time there is that of the whole net grown anew. All must come to the same parents. Dividing is measured
-with a limit of a quarter of a block's even share of the total, or the largest weight.
+with a limit of a quarter of a block's even share of the total, or the largest weight. A report grows the net of the edges and compares it,
+counts reaches, divides, and counts blocks; SuiteSparse's time there is that of `cs_etree` with its columns, `cs_post` and `cs_counts`,
+whose column counts have to be the reaches.
 """
 
 
