@@ -26,12 +26,13 @@ def shown(value):
     return text if len(text) < 2000 else text[:2000] + " .."
 
 
-def test(at_least, given=True):
-    """Registers a test, which has to make at least so many checks, where what it tests is there."""
+def test(at_least, given=True, missing=None):
+    """Registers a test, which has to make at least so many checks, where what it tests is there. One that needs what this machine is
+    `missing` is skipped, and says so."""
 
     def register(function):
         if given:
-            TESTS.append((function, at_least))
+            TESTS.append((function, at_least, missing))
         return function
 
     return register
@@ -40,7 +41,11 @@ def test(at_least, given=True):
 def run_all():
     """Runs the registered tests; answers how many passed and failed."""
     passed = failed = 0
-    for function, at_least in TESTS:
+    for function, at_least, missing in TESTS:
+        name = function.__module__ + "." + function.__name__
+        if missing:
+            print(f"skip   {name}: {missing}", flush=True)
+            continue
         checks, began = Checks(), time.time()
         try:
             function(checks)
@@ -50,6 +55,5 @@ def run_all():
         except Exception:
             traceback.print_exc()
             verdict, failed = "FAILED", failed + 1
-        name = function.__module__ + "." + function.__name__
         print(f"{verdict:6} {name}: {checks.count} checks, {time.time() - began:.1f} s", flush=True)
     return passed, failed

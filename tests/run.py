@@ -13,6 +13,7 @@ import test_division
 import test_blocks
 import test_limits
 import test_bindings
+import test_parts
 
 passed, failed = harness.run_all()
 print(f"{passed} passed, {failed} failed")
