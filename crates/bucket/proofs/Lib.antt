@@ -2,7 +2,6 @@
 pub mod Counts
 pub mod Below
 pub mod Sources
-pub mod Filling
 pub mod Tallied
 pub mod Starts
 pub mod Storing

@@ -62,9 +62,9 @@ fn raise(ends: &[u32], lower: &[u32], parents: &mut [u32], jump: &mut [u32])
 pub fn clear(ends: &mut [u32], jump: &mut [u32], lower: &mut [u32])
     ensures { λ _. ⌜ workOf (now (ends .exit)) (now (jump .exit)) (now (lower .exit)) ≡ cleared (workOf (now (ends .entry)) (now (jump .entry)) (now (lower .entry))) ⌝ }
 {
-    bucket::fill(ends, 0);
-    bucket::fill(jump, 0);
-    bucket::fill(lower, 0);
+    table::fill(ends, 0);
+    table::fill(jump, 0);
+    table::fill(lower, 0);
 }
 
 // Grows the forest of the graph that is filed, and clears the work tables.
@@ -72,8 +72,8 @@ pub fn regrow(parents: &mut [u32], ends: &mut [u32], jump: &mut [u32], lower: &m
     requires { ⌜ Roomy (now ends) (now lower) (now parents) (now jump) ⌝ }
     ensures { λ _. ⌜ Regrows (now (ends .entry)) (now (lower .entry)) (now (jump .entry)) (now (parents .exit)) (now (ends .exit)) (now (lower .exit)) (now (jump .exit)) ⌝ }
 {
-    bucket::fill(parents, Forest::ABSENT);
-    bucket::fill(jump, Forest::ABSENT);
+    table::fill(parents, Forest::ABSENT);
+    table::fill(jump, Forest::ABSENT);
     raise(ends, lower, parents, jump);
     clear(ends, jump, lower);
 }

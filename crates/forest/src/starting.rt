@@ -29,7 +29,7 @@ pub fn start(parents: &mut [u32], weights: &mut [u32]) -> Answer
     if code != 0 {
         return Answer::Refused(code);
     }
-    bucket::fill(parents, Forest::ABSENT);
-    bucket::fill(weights, 0);
+    table::fill(parents, Forest::ABSENT);
+    table::fill(weights, 0);
     Answer::Accepted
 }

@@ -19,7 +19,7 @@ use Rattle.partition.specs.Pack.{lightest, put, loadsBelow, blockOf}
 use Rattle.partition.specs.Work.{Packable, Packed, Topped, Assigned}
 use Rattle.partition.proofs.Sums.{only, total-more}
 use Rattle.partition.proofs.Carried.{entry}
-use Rattle.partition.proofs.Packing.{pack-none, pack-on, pack-pass, loads-length, loads-sum, block-inside, put-here}
+use Rattle.partition.proofs.BlockLoads.{pack-none, pack-on, pack-pass, loads-length, loads-sum, block-inside, put-here}
 
 -- who is a top, by the table of tops
 abbrev pub topIn : List ℕ → ℕ → Bool

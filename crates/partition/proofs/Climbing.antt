@@ -16,7 +16,7 @@ use Rattle.game.proofs.Tables.{tabulate-unique}
 use Rattle.partition.specs.Cut.{top}
 use Rattle.partition.specs.Work.{Hanging, Climbed, holder}
 use Rattle.partition.proofs.Lists.{test-cases}
-use Rattle.partition.proofs.Cutting.{holder-up, holder-cut, holder-root}
+use Rattle.partition.proofs.Ranks.{holder-up, holder-cut, holder-root}
 use Rattle.partition.proofs.Groups.{parent-higher, top-root, top-cut, top-up}
 
 -- the ranks from x on have climbed

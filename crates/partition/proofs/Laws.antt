@@ -27,7 +27,7 @@ use Rattle.partition.proofs.Lists.{test-cases, stretch, stretch-in, sum
 use Rattle.partition.proofs.Sums.{only, total-such}
 use Rattle.partition.proofs.Carried.{entry, greedy-carrying, carried-fits}
 use Rattle.partition.proofs.Groups.{top-up, parent-higher, group-weight, chosen-weight}
-use Rattle.partition.proofs.Packing.{loads-length, loads-sum, load-entry, loads-even, sum-spread}
+use Rattle.partition.proofs.BlockLoads.{loads-length, loads-sum, load-entry, loads-even, sum-spread}
 use Rattle.partition.proofs.Blocks.{topIn}
 use Rattle.partition.proofs.Divided.{tops-entry, groups-weight}
 

@@ -5,14 +5,13 @@ pub mod Trimming
 pub mod Carried
 pub mod Sums
 pub mod Groups
-pub mod Packing
+pub mod BlockLoads
 pub mod Refused
 pub mod Chains
 pub mod Scan
-pub mod Filled
 pub mod Turns
 pub mod Lightening
-pub mod Cutting
+pub mod Ranks
 pub mod Climbing
 pub mod Blocks
 pub mod Divided

@@ -9,7 +9,6 @@ pub mod Climbing
 pub mod Slots
 pub mod Stretches
 pub mod Placing
-pub mod Copying
 pub mod Summing
 pub mod Filing
 pub mod Marking

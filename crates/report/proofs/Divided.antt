@@ -12,7 +12,7 @@ use Rattle.game.proofs.Tables.{tabulate-entry, tabulate-ext}
 use Rattle.partition.specs.Cut.{cut, top}
 use Rattle.partition.specs.Pack.{blockOf}
 use Rattle.partition.specs.Divide.{divided}
-use Rattle.partition.proofs.Packing.{block-inside}
+use Rattle.partition.proofs.BlockLoads.{block-inside}
 use Rattle.report.specs.Figures.{edgeBlock}
 
 module _ (net : Net) (B k : ℕ) where

@@ -98,12 +98,12 @@ pub fn write_block_counts(
     requires { ⌜ Countable (now edges) (now weights) (now block) (now «block_count») (now ends) (now lower) ⌝ }
     ensures { λ _. ⌜ CountedBlocks (now (edges .entry)) (now (block .entry)) (now (ends .entry)) (now (lower .entry)) (now («block_count» .exit)) (now (ends .exit)) (now (lower .exit)) ⌝ }
 {
-    bucket::fill(block_count, Forest::ABSENT);
+    table::fill(block_count, Forest::ABSENT);
     bucket::file_edges(block_count, edges, ends, lower);
     let mut stamps = [0u32; STAMPS];
     count_blocks(weights, block, ends, lower, block_count, &mut stamps);
-    bucket::fill(ends, 0);
-    bucket::fill(lower, 0);
+    table::fill(ends, 0);
+    table::fill(lower, 0);
 }
 
 // The lower end of an edge.

@@ -5,7 +5,7 @@ use Rattle.forest.proofs.grow.clear.Statement.{statement}
 use Rattle.forest.proofs.grow.clear.Tie as tie
 use Rattle.forest.proofs.grow.clear.Reads as reads
 use Rattle.forest.proofs.grow.clear.Lts as lts
-use Rattle.bucket.proofs.fill.Reads as fill-reads
+use Rattle.table.proofs.fill.Reads as fill-reads
 
 fill-requires : tie.Need-fill-requires
 fill-requires c κs = search needs

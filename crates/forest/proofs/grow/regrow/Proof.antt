@@ -9,7 +9,7 @@ use Rattle.forest.proofs.grow.regrow.Statement.{statement}
 use Rattle.forest.proofs.grow.regrow.Tie as tie
 use Rattle.forest.proofs.grow.regrow.Reads as reads
 use Rattle.forest.proofs.grow.regrow.Lts as lts
-use Rattle.bucket.proofs.fill.Reads as fill-reads
+use Rattle.table.proofs.fill.Reads as fill-reads
 use Rattle.forest.proofs.grow.clear.Reads as clear-reads
 use Rattle.forest.proofs.grow.raise.Reads as raise-reads
 

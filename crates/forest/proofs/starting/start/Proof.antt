@@ -10,7 +10,7 @@ use Rattle.forest.proofs.starting.start.Statement.{statement}
 use Rattle.forest.proofs.starting.start.Tie as tie
 use Rattle.forest.proofs.starting.start.Reads as reads
 use Rattle.forest.proofs.starting.start.Lts as lts
-use Rattle.bucket.proofs.fill.Reads as fill-reads
+use Rattle.table.proofs.fill.Reads as fill-reads
 use Rattle.forest.proofs.starting.start_refusal.Reads as start-refusal-reads
 
 start-refusal-requires : tie.Need-start-refusal-requires

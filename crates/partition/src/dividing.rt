@@ -1,0 +1,131 @@
+// The call Divide: what it refuses, and the tables that it writes.
+use crate::grouping::group;
+use crate::index::wide;
+use crate::limits::bad_limits;
+use crate::limits::too_heavy;
+use crate::packing::assign;
+use net::Forest;
+use refusal::Answer;
+ghost use mathlib.Core.Path.{_≡_};
+ghost use lib.ListN.{length};
+ghost use Rattle.refusal.specs.Answer.{number};
+ghost use Rattle.refusal.specs.Outcome.{ended};
+ghost use Rattle.game.specs.Net.{net};
+ghost use Rattle.partition.specs.Divide.{tables, divided, wrongTables, divideRefusal, divideOutcome};
+ghost use Rattle.partition.specs.Work.{Divisible, Fitting};
+
+// Divides a net that nothing speaks against: carried weight, top and block of each vertex, and the load of each block.
+pub fn cut_and_pack(
+    parents: &[u32],
+    weights: &[u32],
+    bound: u32,
+    carried: &mut [u32],
+    top: &mut [u32],
+    block: &mut [u32],
+    block_loads: &mut [u32],
+)
+    requires { ⌜ Divisible (now parents) (now weights) bound ⌝ }
+    requires { ⌜ Fitting (length (now parents)) (tables (now carried) (now top) (now block) (now «block_loads»)) ⌝ }
+    ensures { λ _. ⌜
+        tables (now (carried .exit)) (now (top .exit)) (now (block .exit)) (now («block_loads» .exit))
+        ≡ divided (net (now (parents .entry)) (now (weights .entry))) bound (length (now («block_loads» .entry)))
+        ⌝ }
+{
+    group(parents, weights, bound, carried, top, block);
+    assign(top, carried, block, block_loads);
+}
+
+// Refusal 2: a table of the wrong length. The loads are a table of the block count that is given, the others of the vertex count.
+fn wrong_tables(
+    parents: &[u32],
+    weights: &[u32],
+    blocks: u32,
+    carried: &[u32],
+    top: &[u32],
+    block: &[u32],
+    block_loads: &[u32],
+) -> bool
+    ensures { λ r. ⌜
+        r
+        ≡ wrongTables (net (now (parents .entry)) (now (weights .entry))) blocks
+        (tables (now (carried .entry)) (now (top .entry)) (now (block .entry)) (now («block_loads» .entry)))
+        ⌝ }
+{
+    let n = parents.len();
+    (weights.len() != n)
+        | (carried.len() != n)
+        | (top.len() != n)
+        | (block.len() != n)
+        | (block_loads.len() != wide(blocks))
+}
+
+// The number for which dividing is refused, or 0. The tables that would be written are only looked at for their lengths.
+fn divide_refusal(
+    parents: &[u32],
+    weights: &[u32],
+    bound: u32,
+    blocks: u32,
+    carried: &[u32],
+    top: &[u32],
+    block: &[u32],
+    block_loads: &[u32],
+) -> u32
+    ensures { λ r. ⌜
+        r
+        ≡ divideRefusal (net (now (parents .entry)) (now (weights .entry))) bound blocks
+        (tables (now (carried .entry)) (now (top .entry)) (now (block .entry)) (now («block_loads» .entry)))
+        ⌝ }
+{
+    if refusal::bad_count(parents.len()) {
+        return 1;
+    }
+    if wrong_tables(parents, weights, blocks, carried, top, block, block_loads) {
+        return 2;
+    }
+    if bad_limits(bound, blocks) {
+        return 8;
+    }
+    if Forest::of(parents, weights).is_damaged(parents) {
+        return 30;
+    }
+    if too_heavy(bound, weights) {
+        return 22;
+    }
+    0
+}
+
+// Document 01's Divide, with limit bound and block count blocks: cuts the forest into groups of weight at most bound, and packs the
+// groups into blocks. It writes the carried weight, the top and the block of each vertex, and the load of each block. A refused call
+// leaves every table as it was.
+pub fn divide(
+    parents: &[u32],
+    weights: &[u32],
+    bound: u32,
+    blocks: u32,
+    carried: &mut [u32],
+    top: &mut [u32],
+    block: &mut [u32],
+    block_loads: &mut [u32],
+) -> Answer
+    ensures { λ r. ⌜
+        ended (number r) (tables (now (carried .exit)) (now (top .exit)) (now (block .exit)) (now («block_loads» .exit)))
+        ≡ divideOutcome (net (now (parents .entry)) (now (weights .entry))) bound blocks
+        (tables (now (carried .entry)) (now (top .entry)) (now (block .entry)) (now («block_loads» .entry)))
+        ⌝ }
+{
+    let code = divide_refusal(
+        parents,
+        weights,
+        bound,
+        blocks,
+        carried,
+        top,
+        block,
+        block_loads,
+    );
+    if code != 0 {
+        return Answer::Refused(code);
+    }
+    cut_and_pack(parents, weights, bound, carried, top, block, block_loads);
+    Answer::Accepted
+}

@@ -1,0 +1,39 @@
+// Groups: what remains connected, and its top.
+use crate::cutting::cut;
+use crate::index::wide;
+use net::Forest;
+ghost use mathlib.Core.Path.{_≡_};
+ghost use lib.ListN.{length};
+ghost use Rattle.partition.specs.Work.{Divisible, Hanging, Climbed, Cuts, Grouped};
+
+// Each vertex takes the top of what it hangs on, going down the ranks.
+fn find_tops(link: &mut [u32])
+    requires { ⌜ Hanging (now link) ⌝ }
+    ensures { λ _. ⌜ Climbed (now (link .entry)) (now (link .exit)) ⌝ }
+{
+    let mut x = link.len();
+    while x > 0 {
+        x -= 1;
+        let above = wide(link[x]);
+        link[x] = link[above];
+    }
+}
+
+// Cuts the forest into groups: what each vertex carries, and the top of its group. The table next is for work.
+pub fn group(
+    parents: &[u32],
+    weights: &[u32],
+    bound: u32,
+    carried: &mut [u32],
+    top: &mut [u32],
+    next: &mut [u32],
+)
+    requires { ⌜ Divisible (now parents) (now weights) bound ⌝ }
+    requires { ⌜ (length (now carried) ≡ length (now parents)) × (length (now top) ≡ length (now parents)) × (length (now next) ≡ length (now parents)) ⌝ }
+    ensures { λ _. ⌜ Grouped (now (parents .entry)) (now (weights .entry)) bound (now (carried .exit)) (now (top .exit)) ⌝ }
+{
+    table::fill(top, Forest::ABSENT);
+    table::fill(carried, 0);
+    cut(parents, weights, bound, carried, top, next);
+    find_tops(top);
+}

@@ -1,0 +1,45 @@
+// The limits of a division, and what goes beyond them.
+ghost use mathlib.Core.Path.{_≡_};
+ghost use Prim.Native.Nat.{_<_};
+ghost use Rattle.refusal.specs.Answer.{number};
+ghost use Rattle.partition.specs.Divide.{outside, badLimits, tooHeavy};
+
+// The largest limit on the weight of a group.
+pub const MAX_BOUND: u32 = 16_000_000;
+
+// The largest number of blocks.
+pub const MAX_BLOCKS: u32 = 1_000;
+
+// Whether x is not 1 to most.
+fn is_outside(most: u32, x: u32) -> bool
+    ensures { λ r. ⌜ r ≡ outside most x ⌝ }
+{
+    if x < 1 {
+        return true;
+    }
+    most < x
+}
+
+// Refusal 8: a limit or a block count out of range.
+pub fn bad_limits(bound: u32, blocks: u32) -> bool
+    ensures { λ r. ⌜ r ≡ badLimits bound blocks ⌝ }
+{
+    if is_outside(MAX_BOUND, bound) {
+        return true;
+    }
+    is_outside(MAX_BLOCKS, blocks)
+}
+
+// Refusal 22: a vertex that is too heavy for any group.
+pub fn too_heavy(bound: u32, weights: &[u32]) -> bool
+    ensures { λ r. ⌜ r ≡ tooHeavy bound (now (weights .entry)) ⌝ }
+{
+    let mut i = 0;
+    while i < weights.len() {
+        if bound < weights[i] {
+            return true;
+        }
+        i += 1;
+    }
+    false
+}

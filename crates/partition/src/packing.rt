@@ -1,0 +1,68 @@
+// Packing: groups by rising top into the lightest block.
+use crate::index::wide;
+ghost use mathlib.Core.Path.{_≡_};
+ghost use Prim.Native.Nat.{ℕ, _<_};
+ghost use lib.ListN.{length, getD, replicate};
+ghost use Rattle.refusal.specs.Answer.{number};
+ghost use Rattle.partition.specs.Pack.{lightest};
+ghost use Rattle.partition.specs.Work.{Packable, Packed, Topped, Assigned};
+
+// The block with the least load, of equals the lowest number.
+fn lightest_block(loads: &[u32]) -> usize
+    requires { ⌜ 0 < length (now loads) ⌝ }
+    ensures { λ r. ⌜ r ≡ lightest (now (loads .entry)) ⌝ }
+{
+    let mut best = 0;
+    let mut least = loads[0];
+    let mut i = 1;
+    while i < loads.len() {
+        if loads[i] < least {
+            best = i;
+            least = loads[i];
+        }
+        i += 1;
+    }
+    best
+}
+
+// Packs the groups by rising top, each into the block with the least load so far, and notes the block of each top.
+fn pack(top: &[u32], carried: &[u32], block: &mut [u32], loads: &mut [u32])
+    requires { ⌜ Packable (now top) (now carried) (now block) (now loads) ⌝ }
+    requires { ⌜ now loads ≡ replicate (length (now loads)) 0 ⌝ }
+    ensures { λ _. ⌜ Packed (now (top .entry)) (now (carried .entry)) (now (block .exit)) (now (loads .exit)) ⌝ }
+{
+    let mut x = 0;
+    while x < top.len() {
+        if wide(top[x]) == x {
+            let best = lightest_block(loads);
+            block[x] = best as u32;
+            loads[best] += carried[x];
+        }
+        x += 1;
+    }
+}
+
+// Gives each vertex the block of its top.
+fn spread(top: &[u32], block: &mut [u32])
+    requires { ⌜ Topped (now top) ⌝ }
+    requires { ⌜ length (now block) ≡ length (now top) ⌝ }
+    ensures { λ _. ⌜ ((x : ℕ) → x < length (now (top .entry)) → getD (now (block .exit)) x 0 ≡ getD (now (block .entry)) (getD (now (top .entry)) x 0) 0) ⌝ }
+{
+    let mut x = 0;
+    while x < top.len() {
+        let above = wide(top[x]);
+        block[x] = block[above];
+        x += 1;
+    }
+}
+
+// Packs the groups into blocks: the block of each vertex, and the load of each block.
+pub fn assign(top: &[u32], carried: &[u32], block: &mut [u32], loads: &mut [u32])
+    requires { ⌜ Topped (now top) ⌝ }
+    requires { ⌜ Packable (now top) (now carried) (now block) (now loads) ⌝ }
+    ensures { λ _. ⌜ Assigned (now (top .entry)) (now (carried .entry)) (now (block .exit)) (now (loads .exit)) ⌝ }
+{
+    table::fill(loads, 0);
+    pack(top, carried, block, loads);
+    spread(top, block);
+}

@@ -1,0 +1,103 @@
+use native.Mathlib.Omega.{arith}
+use mathlib.Core.Path.{sym, _∙_}
+use borrow.Author.Needs.{needs}
+use Rattle.game.specs.Edge.{edges as edgesOf}
+use Rattle.game.specs.Net.{reach as reachOf}
+use Rattle.reach.proofs.Nets.{net-total, net-summable, net-fileable, net-slotted}
+use Rattle.reach.proofs.counting.reaches.Statement.{statement}
+use Rattle.reach.proofs.counting.reaches.Tie as tie
+
+cast-lay-out : tie.Need-cast-lay-out
+cast-lay-out c =
+    let g = c .before .before .before .before .before .before .before .before .before .pre .0 in
+    let (er, ee, ea, ep, eo, es) = c .before .before .before .before .before .before .before .before .before .pre .1 in
+    omega (arith, g .few)
+
+lay-out-requires : tie.Need-lay-out-requires
+lay-out-requires c κs =
+    let g = c .before .before .before .before .before .before .before .before .before .before .before .pre .0 in
+    let (er, ee, ea, ep, eo, es) = c .before .before .before .before .before .before .before .before .before .before .before .pre .1 in
+    (net-summable g, (net-total g ∙ sym es, (ee, ea)))
+
+fill-slots-requires : tie.Need-fill-slots-requires
+fill-slots-requires c κs =
+    let g = c .before .before .before .before .before .before .before .before .before .before .before .before .before .before .before .before .before .before .before .pre .0 in
+    let (er, ee, ea, ep, eo, es) = c .before .before .before .before .before .before .before .before .before .before .before .before .before .before .before .before .before .before .before .pre .1 in
+    let l = c .before .before .before .before .before .before .before .lay-out .ensures in
+    let w = net-summable g .entries in
+    (rw w (g .vertices), ((l .entries ∙ sym w, er ∙ sym w), (_, _, net-fileable g l es)))
+
+count-overlaps-requires : tie.Need-count-overlaps-requires
+count-overlaps-requires c κs =
+    let g = c .before .before .before .before .before .before .before .before .before .before .before .before .before .before .before .before .before .before .before .before .before .before .before .before .before .before .before .before .before .before .before .before .pre .0 in
+    let (er, ee, ea, ep, eo, es) = c .before .before .before .before .before .before .before .before .before .before .before .before .before .before .before .before .before .before .before .before .before .before .before .before .before .before .before .before .before .before .before .before .pre .1 in
+    let l = c .before .before .before .before .before .before .before .before .before .before .before .before .before .before .before .before .before .before .before .before .lay-out .ensures in
+    let (filed, content, marked) = c .before .before .before .before .before .before .before .before .before .before .before .before .fill-slots .ensures _ _ (net-fileable g l es) in
+    let k = c .before .before .before .before .before .before .before .before .before .before .before .before .fill-slots .kept in
+    let s = net-slotted g l es (k .1 .1 .1 .1 .0) (k .1 .1 .1 .0 ∙ er) content marked in
+    ((eo, k .1 .1 .0 ∙ l .entries, ep), (_, filed, _, s))
+
+copy-requires : tie.Need-copy-requires
+copy-requires c κs = c .before .before .before .before .before .before .before .before .before .before .before .before .before .before .before .before .before .before .before .before .fill-slots .kept .1 .1 .1 .0 ∙ c .before .before .before .before .before .before .before .before .before .before .before .before .before .before .before .before .before .before .before .before .before .before .before .before .before .before .before .before .before .before .before .before .before .before .before .before .before .before .before .before .pre .1 .0 ∙ sym (net-summable (c .before .before .before .before .before .before .before .before .before .before .before .before .before .before .before .before .before .before .before .before .before .before .before .before .before .before .before .before .before .before .before .before .before .before .before .before .before .before .before .before .pre .0) .entries)
+
+settle-requires : tie.Need-settle-requires
+settle-requires c κs =
+    let g = c .before .before .before .before .before .before .before .before .before .before .before .before .before .before .before .before .before .before .before .before .before .before .before .before .before .before .before .before .before .before .before .before .before .before .before .before .before .before .before .before .before .before .before .before .before .pre .0 in
+    let (er, ee, ea, ep, eo, es) = c .before .before .before .before .before .before .before .before .before .before .before .before .before .before .before .before .before .before .before .before .before .before .before .before .before .before .before .before .before .before .before .before .before .before .before .before .before .before .before .before .before .before .before .before .before .pre .1 in
+    let l = c .before .before .before .before .before .before .before .before .before .before .before .before .before .before .before .before .before .before .before .before .before .before .before .before .before .before .before .before .before .before .before .before .before .lay-out .ensures in
+    let (filed, content, marked) = c .before .before .before .before .before .before .before .before .before .before .before .before .before .before .before .before .before .before .before .before .before .before .before .before .before .fill-slots .ensures _ _ (net-fileable g l es) in
+    let k = c .before .before .before .before .before .before .before .before .before .before .before .before .before .before .before .before .before .before .before .before .before .before .before .before .before .fill-slots .kept in
+    let s = net-slotted g l es (k .1 .1 .1 .1 .0) (k .1 .1 .1 .0 ∙ er) content marked in
+    let same = c .before .before .before .before .copy .ensures in (
+      rw same (net-summable g),
+      (
+        c .before .before .before .before .before .before .before .before .before .before .before .before .count-overlaps .kept .1 .1 .1 .1 .1 .0 ∙ eo,
+        (reachOf (c .before .before .before .before .before .before .before .before .before .before .before .before .before .before .before .before .before .before .before .before .before .before .before .before .before .before .before .before .before .before .before .before .before .before .before .before .before .before .before .before .before .before .before .before .before .args .parents .now) (edgesOf (c .before .before .before .before .before .before .before .before .before .before .before .before .before .before .before .before .before .before .before .before .before .before .before .before .before .before .before .before .before .before .before .before .before .before .before .before .before .before .before .before .before .before .before .before .before .args .edges .now)), rw same (c .before .before .before .before .before .before .before .before .before .before .before .before .count-overlaps .ensures _ filed _ s)),
+      ),
+    )
+
+same-length : tie.Need-same-length
+same-length c = search needs
+
+same-length-2 : tie.Need-same-length-2
+same-length-2 c = search needs
+
+same-length-3 : tie.Need-same-length-3
+same-length-3 c = search needs
+
+same-length-4 : tie.Need-same-length-4
+same-length-4 c = search needs
+
+same-length-5 : tie.Need-same-length-5
+same-length-5 c = search needs
+
+same-length-6 : tie.Need-same-length-6
+same-length-6 c = search needs
+
+returns : tie.Need-returns
+returns c =
+    let g = c .before .before .before .before .before .before .before .before .before .before .before .before .before .before .before .before .before .before .before .before .before .before .before .before .before .before .before .before .before .before .before .before .before .before .before .before .before .before .before .before .before .before .before .before .before .before .before .before .pre .0 in
+    let (er, ee, ea, ep, eo, es) = c .before .before .before .before .before .before .before .before .before .before .before .before .before .before .before .before .before .before .before .before .before .before .before .before .before .before .before .before .before .before .before .before .before .before .before .before .before .before .before .before .before .before .before .before .before .before .before .before .pre .1 in
+    let l = c .before .before .before .before .before .before .before .before .before .before .before .before .before .before .before .before .before .before .before .before .before .before .before .before .before .before .before .before .before .before .before .before .before .before .before .before .lay-out .ensures in
+    let (filed, content, marked) = c .before .before .before .before .before .before .before .before .before .before .before .before .before .before .before .before .before .before .before .before .before .before .before .before .before .before .before .before .fill-slots .ensures _ _ (net-fileable g l es) in
+    let k = c .before .before .before .before .before .before .before .before .before .before .before .before .before .before .before .before .before .before .before .before .before .before .before .before .before .before .before .before .fill-slots .kept in
+    let s = net-slotted g l es (k .1 .1 .1 .1 .0) (k .1 .1 .1 .0 ∙ er) content marked in
+    c .before .before .settle .ensures _ (rw (c .before .before .before .before .before .before .before .copy .ensures) (c .before .before .before .before .before .before .before .before .before .before .before .before .before .before .before .count-overlaps .ensures _ filed _ s))
+
+pub reaches-spec : {M : Type 1} → statement M
+reaches-spec =
+    tie.close
+    (tie.spec
+    cast-lay-out
+    lay-out-requires
+    fill-slots-requires
+    count-overlaps-requires
+    copy-requires
+    settle-requires
+    same-length
+    same-length-2
+    same-length-3
+    same-length-4
+    same-length-5
+    same-length-6
+    returns)
