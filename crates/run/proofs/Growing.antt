@@ -1,0 +1,81 @@
+-- Relabelling the edges and growing their net: none of the calls is refused, and what they leave is the net of the edges by rank.
+-- Assumes nothing.
+use mathlib.Core.Path.{_≡_, sym, ap, ap₂, _∙_}
+use mathlib.Core.Bool.{false}
+use mathlib.Core.List.{List}
+use Prim.Native.Nat.{ℕ, _+_, _/_, _%_, _≤_, _<_}
+use native.Mathlib.Omega.{arith}
+use lib.ListN.{length}
+use borrow.Author.Tests.{ne-eqb, le-ltb}
+use Rattle.game.specs.Edge.{edges}
+use Rattle.game.specs.Net.{net, netOf}
+use Rattle.game.proofs.Edges.{edges-length}
+use Rattle.refusal.specs.Limits.{maxVertices}
+use Rattle.refusal.specs.Refusal.{badCount, firstFault}
+use Rattle.refusal.specs.Outcome.{Outcome, ended, decided}
+use Rattle.refusal.proofs.First.{pass, first-last, right-length, even-list, unless-accepted}
+use Rattle.forest.specs.Work.{workOf, Growing, growing}
+use Rattle.forest.specs.Start.{startOutcome}
+use Rattle.forest.specs.Add.{addOutcome}
+use Rattle.relabel.specs.Relabel.{relabelled, inverseOf, Tables, tables, relabelRefusal, relabelOutcome}
+use Rattle.relabel.proofs.Relabelled.{relabelled-length, relabelled-faultless}
+use Rattle.report.specs.Compare.{Growable}
+use Rattle.report.proofs.Compared.{grown-tables}
+use Rattle.run.specs.Work.{Runnable, GrowRoom, Grown}
+use Rattle.run.specs.Run.{vertexCapacity}
+
+pub few-vertices : (n : ℕ) → 0 < n → n ≤ vertexCapacity → badCount n ≡ false
+unfolding badCount
+few-vertices n some few = rw (ne-eqb n 0 (omega arith), le-ltb maxVertices n (omega arith))
+
+module _ {o xs ranks p w e j l : List ℕ} (r : Runnable o xs) (room : GrowRoom o xs ranks (net p w) (workOf e j l)) where
+  passes : relabelRefusal o xs (length ranks) (length e) ≡ 0
+  unfolding relabelRefusal
+  passes =
+      pass 1 _ (few-vertices (length o) (r .some) (r .vertices))
+      ∙ pass 2 _ (even-list xs (r .even))
+      ∙ pass 2 _ (right-length (length ranks) (length xs) (room .ranked))
+      ∙ pass 2 _ (right-length (length e) (length o) (room .ends))
+      ∙ pass 3 _ (r .good)
+      ∙ first-last _
+      ∙ r .faultless
+
+  -- the edges by rank
+  module _ {m : ℕ} {ranks′ e′ : List ℕ} (relabels : ended m (tables ranks′ e′) ≡ relabelOutcome o xs (tables ranks e)) where
+    by-rank : ranks′ ≡ relabelled o xs
+    unfolding relabelOutcome decided
+    by-rank =
+        ap (λ (t : Outcome Tables). t .tables .out) relabels
+        ∙ ap (λ (t : Tables). t .out) (unless-accepted (relabelRefusal o xs (length ranks) (length e)) (tables ranks e) (tables (relabelled o xs) (inverseOf o)) passes)
+
+    as-long : length ranks′ ≡ length xs
+    as-long = ap length by-rank ∙ relabelled-length o xs
+
+    pub as-many : length (edges ranks′) ≡ length (edges xs)
+    as-many = edges-length ranks′ ∙ ap (λ (n : ℕ). n / 2) as-long ∙ sym (edges-length xs)
+
+    growable : length e′ ≡ length e → Growable ranks′ (net p w) (workOf e′ j l)
+    growable k =
+        record {
+          some = omega (arith, r .some, room .parents);
+          vertices = omega (arith, r .vertices, room .parents);
+          even = ap (λ (n : ℕ). n % 2) as-long ∙ r .even;
+          few = omega (arith, r .few, as-many);
+          faultless =
+              ap₂ (λ (n : ℕ) (ys : List ℕ). firstFault n (edges ys)) (room .parents) by-rank
+              ∙ relabelled-faultless o (r .good) xs (r .faultless);
+          weights = room .weights ∙ sym (room .parents);
+          ends = k ∙ room .ends ∙ sym (room .parents);
+          jump = room .jump ∙ sym (room .parents);
+          lower = room .lower ∙ ap₂ (λ (n m : ℕ). n + m) (sym (room .parents)) (sym as-many);
+        }
+
+    -- all calls together
+    pub all-grown : length e′ ≡ length e → {m′ m″ : ℕ} {p′ w′ p″ w″ e″ j″ l″ : List ℕ} → ended m′ (net p′ w′) ≡ startOutcome (net p w)
+        → ended m″ (growing (net p″ w″) (workOf e″ j″ l″)) ≡ addOutcome (growing (net p′ w′) (workOf e′ j l)) ranks′
+        → Grown o xs ranks′ (net p″ w″)
+    all-grown k s a =
+        record {
+          ranked = by-rank;
+          net = ap (λ (g : Growing). g .net) (grown-tables (growable k) s a) ∙ ap₂ (λ (n : ℕ) (ys : List ℕ). netOf n (edges ys)) (room .parents) by-rank;
+        }

@@ -1,0 +1,104 @@
+-- Document 01, "Whole case": what a run prints, computed from the bytes of its files; with it "With B = 3 rank 0 is the only cut; with
+-- B = 2 the answer is 22. With k = 1 volume is 0. n = 0 is 1", and some runs that more than one refusal applies to.
+-- Assumes nothing.
+use mathlib.Core.Path.{_≡_, refl}
+use mathlib.Core.List.{List, [], _∷_, _++_}
+use Prim.Native.Nat.{ℕ}
+use lib.ListN.{replicate}
+use Rattle.game.specs.Table.{tabulate, sum, count, member}
+use Rattle.game.specs.Edge.{lower, edges}
+use Rattle.game.specs.Net.{netOf, reach}
+use Rattle.refusal.specs.Refusal.{given, first, unless, wrongLength, fault, firstFault}
+use Rattle.relabel.specs.Relabel.{badOrder, relabelled}
+use Rattle.partition.specs.Divide.{badLimits, tooHeavy, divided}
+use Rattle.report.specs.Figures.{filtered, edgeBlock, edgeBlocks, touches, blocksAt, different, blockCount, isCut, bound, volume, boundOf, volumeOf}
+use Rattle.report.specs.Report.{figures}
+use Rattle.words.specs.Word.{bytesOf, words, wordAt}
+use Rattle.decimal.specs.Ascii.{ascii}
+use Rattle.decimal.specs.Decimal.{decimal}
+use Rattle.run.specs.Files.{files, vertexCount, edgeCount, order, edgeList, limit, blocks}
+use Rattle.run.specs.Run.{tooMany, partRecord, notRecords, rankedEdges, runNet, fileRefusal, runRefusal}
+use Rattle.run.specs.Text.{refusedText, spaced, ended, parentText, lineText, rankText, linesBelow, totalsText, reportText, runText}
+
+-- the order and the edges of the whole case
+marks : List ℕ
+marks = bytesOf (3 ∷ 0 ∷ 1 ∷ 2 ∷ 4 ∷ 5 ∷ [])
+
+ties : List ℕ
+ties = bytesOf (3 ∷ 1 ∷ 3 ∷ 4 ∷ 0 ∷ 2 ∷ 0 ∷ 4 ∷ 1 ∷ 5 ∷ 1 ∷ 3 ∷ [])
+
+want : (B k : ℕ) → List ℕ
+want B k = bytesOf (B ∷ k ∷ [])
+
+-- a list that names a vertex 9, and one that before that names a vertex twice
+foreign : List ℕ
+foreign = bytesOf (9 ∷ 9 ∷ [])
+
+twice : List ℕ
+twice = bytesOf (1 ∷ 1 ∷ 9 ∷ 9 ∷ [])
+
+zeros : ℕ → List ℕ
+zeros n = replicate n 0
+
+-- B = 4 and k = 2; B = 3; k = 1; B = 2; one vertex and no edge
+pub computed : List (List ℕ)
+computed =
+    runText (files marks ties (want 4 2))
+    ∷ runText (files marks ties (want 3 2))
+    ∷ runText (files marks ties (want 4 1))
+    ∷ runText (files marks ties (want 2 2))
+    ∷ runText (files (zeros 4) [] (want 1 1))
+    ∷ []
+
+pub printed : List (List ℕ)
+printed =
+    (ascii "0 3 2 3 2 2 0 1\n"
+    ++ ascii "1 0 3 2 2 5 1 1\n"
+    ++ ascii "2 1 4 1 2 2 0 1\n"
+    ++ ascii "3 2 4 0 1 5 1 1\n"
+    ++ ascii "4 4 5 0 1 5 1 2\n"
+    ++ ascii "5 5 - 0 0 5 1 1\n"
+    ++ ascii "bound 2 volume 1\n")
+    ∷ (ascii "0 3 2 3 2 0 0 1\n"
+    ++ ascii "1 0 3 2 2 5 1 1\n"
+    ++ ascii "2 1 4 1 2 5 1 2\n"
+    ++ ascii "3 2 4 0 1 5 1 1\n"
+    ++ ascii "4 4 5 0 1 5 1 2\n"
+    ++ ascii "5 5 - 0 0 5 1 1\n"
+    ++ ascii "bound 2 volume 2\n")
+    ∷ (ascii "0 3 2 3 2 2 0 1\n"
+    ++ ascii "1 0 3 2 2 5 0 1\n"
+    ++ ascii "2 1 4 1 2 2 0 1\n"
+    ++ ascii "3 2 4 0 1 5 0 1\n"
+    ++ ascii "4 4 5 0 1 5 0 1\n"
+    ++ ascii "5 5 - 0 0 5 0 1\n"
+    ++ ascii "bound 2 volume 0\n")
+    ∷ ascii "refused 22\n"
+    ∷ (ascii "0 0 - 0 0 0 0 0\n" ++ ascii "bound 0 volume 0\n")
+    ∷ []
+
+-- No vertex, and part of one, with anything; more than 1,000 vertices; more than 4,000 edges; part of a record behind 1,000 vertices,
+-- behind the edges, and no limits at all; an order that repeats; a limit of 0; an edge of a vertex 9; an edge of one vertex, before that.
+pub refusedRuns : List ℕ
+refusedRuns =
+    runRefusal (files [] foreign [])
+    ∷ runRefusal (files (zeros 3) foreign [])
+    ∷ runRefusal (files (zeros 4_004) foreign [])
+    ∷ runRefusal (files marks (zeros 32_008) [])
+    ∷ runRefusal (files (zeros 4_001) foreign (want 0 0))
+    ∷ runRefusal (files (zeros 8) (zeros 12) (want 0 0))
+    ∷ runRefusal (files (zeros 8) foreign [])
+    ∷ runRefusal (files (zeros 8) foreign (want 0 0))
+    ∷ runRefusal (files marks foreign (want 0 2))
+    ∷ runRefusal (files marks foreign (want 4 1_001))
+    ∷ runRefusal (files marks foreign (want 4 2))
+    ∷ runRefusal (files marks twice (want 4 2))
+    ∷ []
+
+pub paper : computed ≡ printed
+unfolding computed printed marks ties want zeros ascii decimal runText runRefusal fileRefusal tooMany partRecord notRecords rankedEdges runNet vertexCount edgeCount order edgeList limit blocks refusedText spaced ended parentText lineText rankText linesBelow totalsText reportText words wordAt bytesOf unless first given wrongLength badOrder badLimits firstFault edges fault tooHeavy netOf relabelled figures reach divided lower edgeBlocks edgeBlock blockCount different blocksAt filtered touches bound boundOf isCut volume volumeOf tabulate sum count member
+paper = refl
+
+pub refused : refusedRuns ≡ 1 ∷ 1 ∷ 2 ∷ 2 ∷ 6 ∷ 6 ∷ 6 ∷ 3 ∷ 8 ∷ 8 ∷ 4 ∷ 5 ∷ []
+unfolding refusedRuns marks foreign twice want zeros runRefusal fileRefusal tooMany partRecord notRecords vertexCount edgeCount order edgeList limit blocks words wordAt bytesOf first given wrongLength badOrder badLimits firstFault edges fault
+refused = refl
