@@ -3,27 +3,27 @@
 use mathlib.Core.Path.{_≡_, sym, ap, subst, _∙_}
 use mathlib.Core.Bool.{false}
 use mathlib.Core.List.{List}
-use Prim.Native.Nat.{ℕ, _+_, _/_, _%_}
+use Prim.Native.Nat.{ℕ, _+_, _%_}
 use native.Mathlib.Omega.{arith}
 use lib.ListN.{length}
 use Rattle.game.specs.Edge.{edges}
 use Rattle.game.specs.Net.{Net, netOf}
-use Rattle.game.proofs.Edges.{edges-length}
 use Rattle.refusal.specs.Refusal.{firstFault}
 use Rattle.forest.specs.Work.{workOf}
 use Rattle.relabel.specs.Relabel.{relabelled}
-use Rattle.relabel.proofs.Relabelled.{relabelled-length, relabelled-faultless}
+use Rattle.relabel.proofs.Relabelled.{relabelled-faultless}
 use Rattle.partition.specs.Divide.{badLimits}
 use Rattle.decimal.specs.Put.{Put}
 use Rattle.report.specs.Report.{Written, lent}
 use Rattle.run.specs.Work.{Runnable, Grown, ReportRoom, Ready, netText}
+use Rattle.run.proofs.Growing.{ranked-length, ranked-count}
 
 module _ {o xs ranks : List ℕ} {grown : Net} (r : Runnable o xs) (g : Grown o xs ranks grown) where
   as-long : length ranks ≡ length xs
-  as-long = ap length (g .ranked) ∙ relabelled-length o xs
+  as-long = ranked-length o xs (g .ranked)
 
   as-many : length (edges ranks) ≡ length (edges xs)
-  as-many = edges-length ranks ∙ ap (λ (n : ℕ). n / 2) as-long ∙ sym (edges-length xs)
+  as-many = ranked-count o xs (g .ranked)
 
   pub to-report : {B k : ℕ} {w : Written} {c : Net} {e j l e′ j′ l′ : List ℕ} → badLimits B k ≡ false
       → ReportRoom (length o) (length (edges xs)) k (lent w c (workOf e j l)) → length e′ ≡ length e → length j′ ≡ length j → length l′ ≡ length l

@@ -28,6 +28,13 @@ pub few-vertices : (n : ℕ) → 0 < n → n ≤ vertexCapacity → badCount n �
 unfolding badCount
 few-vertices n some few = rw (ne-eqb n 0 (omega arith), le-ltb maxVertices n (omega arith))
 
+-- the edges by rank are as many
+pub ranked-length : (o xs : List ℕ) {ranks : List ℕ} → ranks ≡ relabelled o xs → length ranks ≡ length xs
+ranked-length o xs e = ap length e ∙ relabelled-length o xs
+
+pub ranked-count : (o xs : List ℕ) {ranks : List ℕ} → ranks ≡ relabelled o xs → length (edges ranks) ≡ length (edges xs)
+ranked-count o xs {ranks} e = edges-length ranks ∙ ap (λ (n : ℕ). n / 2) (ranked-length o xs e) ∙ sym (edges-length xs)
+
 module _ {o xs ranks p w e j l : List ℕ} (r : Runnable o xs) (room : GrowRoom o xs ranks (net p w) (workOf e j l)) where
   passes : relabelRefusal o xs (length ranks) (length e) ≡ 0
   unfolding relabelRefusal
@@ -49,10 +56,10 @@ module _ {o xs ranks p w e j l : List ℕ} (r : Runnable o xs) (room : GrowRoom 
         ∙ ap (λ (t : Tables). t .out) (unless-accepted (relabelRefusal o xs (length ranks) (length e)) (tables ranks e) (tables (relabelled o xs) (inverseOf o)) passes)
 
     as-long : length ranks′ ≡ length xs
-    as-long = ap length by-rank ∙ relabelled-length o xs
+    as-long = ranked-length o xs by-rank
 
-    pub as-many : length (edges ranks′) ≡ length (edges xs)
-    as-many = edges-length ranks′ ∙ ap (λ (n : ℕ). n / 2) as-long ∙ sym (edges-length xs)
+    as-many : length (edges ranks′) ≡ length (edges xs)
+    as-many = ranked-count o xs by-rank
 
     growable : length e′ ≡ length e → Growable ranks′ (net p w) (workOf e′ j l)
     growable k =
