@@ -12,7 +12,7 @@ use Rattle.game.proofs.Order.{Same, net-order}
 use Rattle.linkfile.specs.LinkFile.{linkFile}
 use Rattle.linkfile.proofs.RoundTrip.{link-file-length}
 use Rattle.report.specs.Report.{Lent, reportOutcome}
-use Rattle.report.proofs.Volume.{volume-bound}
+use Rattle.cost.proofs.VolumeBound.{volume-bound}
 use Rattle.report.proofs.Own.{own-not-23, accepted-figures}
 use Rattle.history.specs.World.{World, Call, step}
 use Rattle.history.specs.Book.{Book, entry, note, blank}

@@ -15,7 +15,7 @@ use Rattle.game.specs.Net.{Net, netOf}
 use Rattle.game.proofs.Order.{Same}
 use Rattle.refusal.specs.Outcome.{Outcome}
 use Rattle.linkfile.specs.LinkFile.{linkFile}
-use Rattle.report.specs.Figures.{boundOf, volumeOf}
+use Rattle.cost.specs.Figures.{boundOf, volumeOf}
 use Rattle.report.specs.Answer.{Reply, accepted, refused}
 use Rattle.report.specs.Report.{Lent, reportOutcome}
 use Rattle.history.specs.World.{World, Call, step}

@@ -24,7 +24,7 @@ use Rattle.net.proofs.Scan.{undamaged}
 use Rattle.game.proofs.Bools.{or-neither}
 use Rattle.game.proofs.Sound.{true-sound}
 use Rattle.partition.specs.Work.{Divisible, Fitting}
-use Rattle.partition.specs.Divide.{outside, badLimits, tooHeavy, maxBound, maxBlocks, Tables, wrongTables, divideRefusal, divided, divideOutcome}
+use Rattle.partition.specs.Divide.{outside, badLimits, tooHeavy, maxLimit, maxBlocks, Tables, wrongTables, divideRefusal, divided, divideOutcome}
 
 module _ (most v : ℕ) where
   pub outside-low : v < 1 → outside most v ≡ true
@@ -58,11 +58,11 @@ module _ (B : ℕ) (w : List ℕ) (i : ℕ) where
   unfolding tooHeavy
   heavy-end h = rw (drop-of-length-le w h)
 
-pub limits-not : (B k : ℕ) → badLimits B k ≡ false → (1 ≤ B) × (B ≤ maxBound) × (1 ≤ k) × (k ≤ maxBlocks)
+pub limits-not : (B k : ℕ) → badLimits B k ≡ false → (1 ≤ B) × (B ≤ maxLimit) × (1 ≤ k) × (k ≤ maxBlocks)
 unfolding badLimits
 limits-not B k e =
-    let t = or-neither (outside maxBound B) (outside maxBlocks k) e in
-    let b = outside-not maxBound B (t .0) in
+    let t = or-neither (outside maxLimit B) (outside maxBlocks k) e in
+    let b = outside-not maxLimit B (t .0) in
     let c = outside-not maxBlocks k (t .1) in
     (b .0, b .1, c .0, c .1)
 

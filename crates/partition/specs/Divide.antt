@@ -17,8 +17,8 @@ use Rattle.partition.specs.Cut.{carried, cutBy, top}
 use Rattle.partition.specs.Pack.{loadsBelow, blockOf}
 
 -- "B not 1 to 16,000,000"
-abbrev pub maxBound : ℕ
-maxBound = 16_000_000
+abbrev pub maxLimit : ℕ
+maxLimit = 16_000_000
 
 -- "k not 1 to 1,000"
 abbrev pub maxBlocks : ℕ
@@ -31,7 +31,7 @@ outside most v = not (leb 1 v && leb v most)
 -- 8, of a limit B and a block count k
 unfoldable pub badLimits : ℕ → ℕ → Bool
 unfolding outside
-badLimits B k = outside maxBound B || outside maxBlocks k
+badLimits B k = outside maxLimit B || outside maxBlocks k
 
 -- 22: "a mark's load is above B, so that no cutting can hold B"
 unfoldable pub tooHeavy : ℕ → List ℕ → Bool

@@ -28,21 +28,21 @@ fn trim(
     x: u32,
     weight: u32,
     uncut: u32,
-    bound: u32,
+    limit: u32,
     floor: u32,
     first: u32,
     next: &[u32],
     carried: &[u32],
     link: &mut [u32],
 ) -> u32
-    requires { ⌜ Family x weight uncut bound floor first (now next) (now carried) (now link) ⌝ }
-    ensures { λ r. ⌜ Trimmed x weight bound floor (now (carried .entry)) (now (link .entry)) (now (link .exit)) r ⌝ }
+    requires { ⌜ Family x weight uncut limit floor first (now next) (now carried) (now link) ⌝ }
+    ensures { λ r. ⌜ Trimmed x weight limit floor (now (carried .entry)) (now (link .entry)) (now (link .exit)) r ⌝ }
 {
     let mut uncut = uncut;
-    let mut most = bound;
+    let mut most = limit;
     let mut start = first;
     'cut: loop {
-        if weight + uncut <= bound {
+        if weight + uncut <= limit {
             break 'cut;
         }
         let mut heaviest = 0;
@@ -81,16 +81,16 @@ fn lighten(
     x: u32,
     weight: u32,
     uncut: u32,
-    bound: u32,
+    limit: u32,
     first: u32,
     carried: &[u32],
     link: &mut [u32],
     next: &mut [u32],
 ) -> u32
-    requires { ⌜ Brood x weight uncut bound first (now next) (now carried) (now link) ⌝ }
-    ensures { λ r. ⌜ Lightened x weight bound (now (carried .entry)) (now (link .entry)) (now (link .exit)) (now (next .entry)) (now (next .exit)) r ⌝ }
+    requires { ⌜ Brood x weight uncut limit first (now next) (now carried) (now link) ⌝ }
+    ensures { λ r. ⌜ Lightened x weight limit (now (carried .entry)) (now (link .entry)) (now (link .exit)) (now (next .entry)) (now (next .exit)) r ⌝ }
 {
-    if weight + uncut <= bound {
+    if weight + uncut <= limit {
         return weight + uncut;
     }
     let mut heavy = Forest::ABSENT;
@@ -108,11 +108,11 @@ fn lighten(
         }
         child = after;
     }
-    let left = trim(x, weight, uncut, bound, FLOOR, heavy, next, carried, link);
-    if weight + left <= bound {
+    let left = trim(x, weight, uncut, limit, FLOOR, heavy, next, carried, link);
+    if weight + left <= limit {
         return weight + left;
     }
-    weight + trim(x, weight, left, bound, 0, light, next, carried, link)
+    weight + trim(x, weight, left, limit, 0, light, next, carried, link)
 }
 
 // Cuts the forest, going up the ranks. At first link holds ABSENT and carried 0. On the way, for a vertex that is not reached yet,
@@ -121,15 +121,15 @@ fn lighten(
 pub fn cut(
     parents: &[u32],
     weights: &[u32],
-    bound: u32,
+    limit: u32,
     carried: &mut [u32],
     link: &mut [u32],
     next: &mut [u32],
 )
-    requires { ⌜ Divisible (now parents) (now weights) bound ⌝ }
+    requires { ⌜ Divisible (now parents) (now weights) limit ⌝ }
     requires { ⌜ (now carried ≡ replicate (length (now parents)) 0) × (now link ≡ replicate (length (now parents)) absent) ⌝ }
     requires { ⌜ length (now next) ≡ length (now parents) ⌝ }
-    ensures { λ _. ⌜ Cuts (now (parents .entry)) (now (weights .entry)) bound (now (carried .exit)) (now (link .exit)) ⌝ }
+    ensures { λ _. ⌜ Cuts (now (parents .entry)) (now (weights .entry)) limit (now (carried .exit)) (now (link .exit)) ⌝ }
 {
     let mut x = 0;
     while x < parents.len() {
@@ -137,7 +137,7 @@ pub fn cut(
             x as u32,
             weights[x],
             carried[x],
-            bound,
+            limit,
             link[x],
             carried,
             link,

@@ -18,20 +18,20 @@ ghost use Rattle.partition.specs.Work.{Divisible, Fitting};
 pub fn cut_and_pack(
     parents: &[u32],
     weights: &[u32],
-    bound: u32,
+    limit: u32,
     carried: &mut [u32],
     top: &mut [u32],
     block: &mut [u32],
     block_loads: &mut [u32],
 )
-    requires { ⌜ Divisible (now parents) (now weights) bound ⌝ }
+    requires { ⌜ Divisible (now parents) (now weights) limit ⌝ }
     requires { ⌜ Fitting (length (now parents)) (tables (now carried) (now top) (now block) (now «block_loads»)) ⌝ }
     ensures { λ _. ⌜
         tables (now (carried .exit)) (now (top .exit)) (now (block .exit)) (now («block_loads» .exit))
-        ≡ divided (net (now (parents .entry)) (now (weights .entry))) bound (length (now («block_loads» .entry)))
+        ≡ divided (net (now (parents .entry)) (now (weights .entry))) limit (length (now («block_loads» .entry)))
         ⌝ }
 {
-    group(parents, weights, bound, carried, top, block);
+    group(parents, weights, limit, carried, top, block);
     assign(top, carried, block, block_loads);
 }
 
@@ -63,7 +63,7 @@ fn wrong_tables(
 fn divide_refusal(
     parents: &[u32],
     weights: &[u32],
-    bound: u32,
+    limit: u32,
     blocks: u32,
     carried: &[u32],
     top: &[u32],
@@ -72,7 +72,7 @@ fn divide_refusal(
 ) -> u32
     ensures { λ r. ⌜
         r
-        ≡ divideRefusal (net (now (parents .entry)) (now (weights .entry))) bound blocks
+        ≡ divideRefusal (net (now (parents .entry)) (now (weights .entry))) limit blocks
         (tables (now (carried .entry)) (now (top .entry)) (now (block .entry)) (now («block_loads» .entry)))
         ⌝ }
 {
@@ -82,25 +82,25 @@ fn divide_refusal(
     if wrong_tables(parents, weights, blocks, carried, top, block, block_loads) {
         return 2;
     }
-    if bad_limits(bound, blocks) {
+    if bad_limits(limit, blocks) {
         return 8;
     }
     if Forest::of(parents, weights).is_damaged(parents) {
         return 30;
     }
-    if too_heavy(bound, weights) {
+    if too_heavy(limit, weights) {
         return 22;
     }
     0
 }
 
-// Document 01's Divide, with limit bound and block count blocks: cuts the forest into groups of weight at most bound, and packs the
+// Document 01's Divide, with a limit and a number of blocks: cuts the forest into groups of weight at most the limit, and packs the
 // groups into blocks. It writes the carried weight, the top and the block of each vertex, and the load of each block. A refused call
 // leaves every table as it was.
 pub fn divide(
     parents: &[u32],
     weights: &[u32],
-    bound: u32,
+    limit: u32,
     blocks: u32,
     carried: &mut [u32],
     top: &mut [u32],
@@ -109,14 +109,14 @@ pub fn divide(
 ) -> Answer
     ensures { λ r. ⌜
         ended (number r) (tables (now (carried .exit)) (now (top .exit)) (now (block .exit)) (now («block_loads» .exit)))
-        ≡ divideOutcome (net (now (parents .entry)) (now (weights .entry))) bound blocks
+        ≡ divideOutcome (net (now (parents .entry)) (now (weights .entry))) limit blocks
         (tables (now (carried .entry)) (now (top .entry)) (now (block .entry)) (now («block_loads» .entry)))
         ⌝ }
 {
     let code = divide_refusal(
         parents,
         weights,
-        bound,
+        limit,
         blocks,
         carried,
         top,
@@ -126,6 +126,6 @@ pub fn divide(
     if code != 0 {
         return Answer::Refused(code);
     }
-    cut_and_pack(parents, weights, bound, carried, top, block, block_loads);
+    cut_and_pack(parents, weights, limit, carried, top, block, block_loads);
     Answer::Accepted
 }

@@ -23,17 +23,17 @@ fn find_tops(link: &mut [u32])
 pub fn group(
     parents: &[u32],
     weights: &[u32],
-    bound: u32,
+    limit: u32,
     carried: &mut [u32],
     top: &mut [u32],
     next: &mut [u32],
 )
-    requires { ⌜ Divisible (now parents) (now weights) bound ⌝ }
+    requires { ⌜ Divisible (now parents) (now weights) limit ⌝ }
     requires { ⌜ (length (now carried) ≡ length (now parents)) × (length (now top) ≡ length (now parents)) × (length (now next) ≡ length (now parents)) ⌝ }
-    ensures { λ _. ⌜ Grouped (now (parents .entry)) (now (weights .entry)) bound (now (carried .exit)) (now (top .exit)) ⌝ }
+    ensures { λ _. ⌜ Grouped (now (parents .entry)) (now (weights .entry)) limit (now (carried .exit)) (now (top .exit)) ⌝ }
 {
     table::fill(top, Forest::ABSENT);
     table::fill(carried, 0);
-    cut(parents, weights, bound, carried, top, next);
+    cut(parents, weights, limit, carried, top, next);
     find_tops(top);
 }

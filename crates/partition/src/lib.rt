@@ -10,6 +10,6 @@ mod packing;
 pub use dividing::cut_and_pack;
 pub use dividing::divide;
 pub use limits::MAX_BLOCKS;
-pub use limits::MAX_BOUND;
+pub use limits::MAX_LIMIT;
 pub use limits::bad_limits;
 pub use limits::too_heavy;

@@ -5,7 +5,7 @@ ghost use Rattle.refusal.specs.Answer.{number};
 ghost use Rattle.partition.specs.Divide.{outside, badLimits, tooHeavy};
 
 // The largest limit on the weight of a group.
-pub const MAX_BOUND: u32 = 16_000_000;
+pub const MAX_LIMIT: u32 = 16_000_000;
 
 // The largest number of blocks.
 pub const MAX_BLOCKS: u32 = 1_000;
@@ -21,22 +21,22 @@ fn is_outside(most: u32, x: u32) -> bool
 }
 
 // Refusal 8: a limit or a block count out of range.
-pub fn bad_limits(bound: u32, blocks: u32) -> bool
-    ensures { λ r. ⌜ r ≡ badLimits bound blocks ⌝ }
+pub fn bad_limits(limit: u32, blocks: u32) -> bool
+    ensures { λ r. ⌜ r ≡ badLimits limit blocks ⌝ }
 {
-    if is_outside(MAX_BOUND, bound) {
+    if is_outside(MAX_LIMIT, limit) {
         return true;
     }
     is_outside(MAX_BLOCKS, blocks)
 }
 
 // Refusal 22: a vertex that is too heavy for any group.
-pub fn too_heavy(bound: u32, weights: &[u32]) -> bool
-    ensures { λ r. ⌜ r ≡ tooHeavy bound (now (weights .entry)) ⌝ }
+pub fn too_heavy(limit: u32, weights: &[u32]) -> bool
+    ensures { λ r. ⌜ r ≡ tooHeavy limit (now (weights .entry)) ⌝ }
 {
     let mut i = 0;
     while i < weights.len() {
-        if bound < weights[i] {
+        if limit < weights[i] {
             return true;
         }
         i += 1;

@@ -13,7 +13,7 @@ use Rattle.refusal.proofs.First.{first-pass, first-stop, first-last, unless-ref
 use Rattle.forest.specs.Work.{Work, workOf, cleared, zeros}
 use Rattle.partition.proofs.Refused.{accepted as divides-accepted}
 use Rattle.reach.specs.Given.{IsNetOf}
-use Rattle.report.specs.Figures.{boundOf, volumeOf}
+use Rattle.cost.specs.Figures.{boundOf, volumeOf}
 use Rattle.report.specs.Compare.{sameNet, Comparison, comparison, compared}
 use Rattle.report.specs.Answer.{Reply, accepted, refused, replied}
 use Rattle.report.specs.Report.{Written, Lent, lent, reported, wrongLent, earlyRefusal, lateRefusal, reportRefusal, figures, reportOutcome}

@@ -10,7 +10,7 @@ use lib.ListN.{length}
 use Rattle.game.specs.Edge.{Edge, _─_, edges}
 use Rattle.game.specs.Net.{Net, netOf}
 use Rattle.refusal.specs.Refusal.{given, first, fault, firstFault}
-use Rattle.report.specs.Figures.{boundOf, volumeOf}
+use Rattle.cost.specs.Figures.{boundOf, volumeOf}
 use Rattle.report.specs.Answer.{accepted, refused, replied}
 use Rattle.report.specs.Report.{Lent, wrongLent, earlyRefusal, lateRefusal, reportRefusal, reportOutcome}
 use Rattle.report.proofs.Sameness.{net-same}

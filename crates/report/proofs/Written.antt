@@ -22,15 +22,16 @@ use Rattle.partition.specs.Cut.{top}
 use Rattle.partition.specs.Work.{Fitting}
 use Rattle.partition.proofs.Sums.{only}
 use Rattle.reach.proofs.Counts.{bool-false}
-use Rattle.report.specs.Figures.{different, edgeBlocks, blocksAt, blockCount, bound, boundOf, volumeOf}
+use Rattle.cost.specs.Figures.{different, edgeBlocks, blocksAt, blockCount, bound, boundOf, volumeOf}
 use Rattle.report.specs.Answer.{accepted}
 use Rattle.report.specs.Report.{written, figures}
-use Rattle.report.specs.Work.{boundBy, volumeBy, Countable, CountedBlocks, Reportable, Spread, Answered}
-use Rattle.report.proofs.Totals.{table-total, sum-next}
-use Rattle.report.proofs.Blocks.{block-at}
-use Rattle.report.proofs.Divided.{cuts, packed, divided-top, divided-block, block-below}
-use Rattle.report.proofs.Stamps.{different-total}
-use Rattle.report.proofs.Summed.{bound-by, volume-by}
+use Rattle.cost.specs.Work.{boundBy, volumeBy, Countable, CountedBlocks}
+use Rattle.report.specs.Work.{Reportable, Spread, Answered}
+use Rattle.cost.proofs.Totals.{table-total, sum-next}
+use Rattle.cost.proofs.Blocks.{block-at}
+use Rattle.cost.proofs.Divided.{cuts, packed, divided-top, divided-block, block-below}
+use Rattle.cost.proofs.Stamps.{different-total}
+use Rattle.cost.proofs.Summed.{bound-by, volume-by}
 
 -- tables fit as long as their lengths are kept
 pub fitting-kept : {n : ℕ} {c t b l : List ℕ} → Fitting n (tables c t b l) → {c′ t′ b′ : List ℕ}

@@ -1,6 +1,4 @@
--- What a report says of a division, and the call that makes it.
-pub mod Figures
-pub mod Laid
+-- The call that reports on a division.
 pub mod Compare
 pub mod Answer
 pub mod Report

@@ -14,7 +14,7 @@ use Rattle.refusal.specs.Refusal.{given, first, unless, badCount, wrongLength, 
 use Rattle.net.specs.Damage.{damagedBy, damaged}
 use Rattle.forest.specs.Work.{workOf, badWork, zeros, cleared}
 use Rattle.partition.specs.Divide.{tables, badLimits, tooHeavy, divided, wrongTables}
-use Rattle.report.specs.Figures.{filtered, edgeBlock, edgeBlocks, touches, blocksAt, different, blockCount, isCut, bound, volume, boundOf, volumeOf}
+use Rattle.cost.specs.Figures.{filtered, edgeBlock, edgeBlocks, touches, blocksAt, different, blockCount, isCut, bound, volume, boundOf, volumeOf}
 use Rattle.report.specs.Compare.{sameTable, sameNet}
 use Rattle.report.specs.Answer.{accepted, refused, replied}
 use Rattle.report.specs.Report.{Written, written, Lent, lent, ReportOutcome, reported, wrongFigures, wrongLent, earlyRefusal, lateRefusal, reportRefusal, figures, reportOutcome}

@@ -20,7 +20,7 @@ use Rattle.refusal.specs.Refusal.{given, first, unless, badCount, wrongLength, 
 use Rattle.net.specs.Damage.{damaged}
 use Rattle.forest.specs.Work.{Work, badWork, cleared}
 use Rattle.partition.specs.Divide.{Tables, tables, badLimits, tooHeavy, divided, wrongTables}
-use Rattle.report.specs.Figures.{edgeBlocks, blockCount, boundOf, volumeOf}
+use Rattle.cost.specs.Figures.{edgeBlocks, blockCount, boundOf, volumeOf}
 use Rattle.report.specs.Compare.{sameNet}
 use Rattle.report.specs.Answer.{Reply, replied}
 

@@ -1,9 +1,7 @@
 // Report: divides a net and says what the division costs. Beside the tables of Divide it writes the block of each edge and the reach and
 // the block count of each vertex, and answers the bound and the volume of communication between the blocks.
 mod comparing;
-mod counting;
 mod reporting;
-mod summing;
 
 pub use comparing::compare;
 pub use reporting::report;

@@ -2,8 +2,6 @@
 // only then it writes anything else.
 use crate::ReportAnswer;
 use crate::comparing;
-use crate::counting;
-use crate::summing;
 use net::Forest;
 use partition::cut_and_pack;
 use reach::reaches;
@@ -71,13 +69,13 @@ fn wrong_work(n: usize, both: usize, ends: usize, jump: usize, lower: usize) -> 
 fn early_refusal(
     parents: &[u32],
     weights: &[u32],
-    bound: u32,
+    limit: u32,
     blocks: u32,
     edges: &[u32],
     wrong: bool,
 ) -> u32
     requires { ⌜ (wrong ≡ false → length (now weights) ≡ length (now parents)) ⌝ }
-    ensures { λ r. ⌜ r ≡ earlyRefusal (net (now (parents .entry)) (now (weights .entry))) bound blocks (now (edges .entry)) wrong ⌝ }
+    ensures { λ r. ⌜ r ≡ earlyRefusal (net (now (parents .entry)) (now (weights .entry))) limit blocks (now (edges .entry)) wrong ⌝ }
 {
     let n = parents.len();
     if refusal::bad_count(n) {
@@ -86,7 +84,7 @@ fn early_refusal(
     if wrong {
         return 2;
     }
-    if partition::bad_limits(bound, blocks) {
+    if partition::bad_limits(limit, blocks) {
         return 8;
     }
     if Forest::of(parents, weights).is_damaged(parents) {
@@ -99,7 +97,7 @@ fn early_refusal(
     if refusal::MAX_EDGES < edges.len() / 2 {
         return 20;
     }
-    if partition::too_heavy(bound, weights) {
+    if partition::too_heavy(limit, weights) {
         return 22;
     }
     0
@@ -110,7 +108,7 @@ fn early_refusal(
 fn divide_and_reach(
     parents: &[u32],
     weights: &[u32],
-    bound: u32,
+    limit: u32,
     edges: &[u32],
     carried: &mut [u32],
     top: &mut [u32],
@@ -120,8 +118,8 @@ fn divide_and_reach(
     reach: &mut [u32],
     block_count: &mut [u32],
 )
-    requires { ⌜ Reportable (now parents) (now weights) bound (now edges) (written (tables (now carried) (now top) (now block) (now «block_loads»)) (now «edge_blocks») (now reach) (now «block_count»)) ⌝ }
-    ensures { λ _. ⌜ Spread (now (parents .entry)) (now (weights .entry)) bound (length (now («block_loads» .entry))) (now (edges .entry)) (tables (now (carried .exit)) (now (top .exit)) (now (block .exit)) (now («block_loads» .exit))) (now (reach .exit)) ⌝ }
+    requires { ⌜ Reportable (now parents) (now weights) limit (now edges) (written (tables (now carried) (now top) (now block) (now «block_loads»)) (now «edge_blocks») (now reach) (now «block_count»)) ⌝ }
+    ensures { λ _. ⌜ Spread (now (parents .entry)) (now (weights .entry)) limit (length (now («block_loads» .entry))) (now (edges .entry)) (tables (now (carried .exit)) (now (top .exit)) (now (block .exit)) (now («block_loads» .exit))) (now (reach .exit)) ⌝ }
 {
     reaches(
         parents,
@@ -134,14 +132,14 @@ fn divide_and_reach(
         block_count,
         edge_blocks,
     );
-    cut_and_pack(parents, weights, bound, carried, top, block, block_loads);
+    cut_and_pack(parents, weights, limit, carried, top, block, block_loads);
 }
 
 // Writes all that a report says of a net, and answers its bound and its volume. The work tables end as zeros.
 fn write_report(
     parents: &[u32],
     weights: &[u32],
-    bound: u32,
+    limit: u32,
     edges: &[u32],
     carried: &mut [u32],
     top: &mut [u32],
@@ -153,14 +151,14 @@ fn write_report(
     ends: &mut [u32],
     lower: &mut [u32],
 ) -> ReportAnswer
-    requires { ⌜ Reportable (now parents) (now weights) bound (now edges) (written (tables (now carried) (now top) (now block) (now «block_loads»)) (now «edge_blocks») (now reach) (now «block_count»)) ⌝ }
+    requires { ⌜ Reportable (now parents) (now weights) limit (now edges) (written (tables (now carried) (now top) (now block) (now «block_loads»)) (now «edge_blocks») (now reach) (now «block_count»)) ⌝ }
     requires { ⌜ (length (now ends) ≡ length (now parents)) × (length (now lower) ≡ length (now parents) + length (edgesOf (now edges))) ⌝ }
-    ensures { λ r. ⌜ Answered (net (now (parents .entry)) (now (weights .entry))) bound (length (now («block_loads» .entry))) (edgesOf (now (edges .entry))) (now (ends .entry)) (now (lower .entry)) (reply r) (written (tables (now (carried .exit)) (now (top .exit)) (now (block .exit)) (now («block_loads» .exit))) (now («edge_blocks» .exit)) (now (reach .exit)) (now («block_count» .exit))) (now (ends .exit)) (now (lower .exit)) ⌝ }
+    ensures { λ r. ⌜ Answered (net (now (parents .entry)) (now (weights .entry))) limit (length (now («block_loads» .entry))) (edgesOf (now (edges .entry))) (now (ends .entry)) (now (lower .entry)) (reply r) (written (tables (now (carried .exit)) (now (top .exit)) (now (block .exit)) (now («block_loads» .exit))) (now («edge_blocks» .exit)) (now (reach .exit)) (now («block_count» .exit))) (now (ends .exit)) (now (lower .exit)) ⌝ }
 {
     divide_and_reach(
         parents,
         weights,
-        bound,
+        limit,
         edges,
         carried,
         top,
@@ -170,10 +168,10 @@ fn write_report(
         reach,
         block_count,
     );
-    counting::write_edge_blocks(edges, block, edge_blocks);
-    counting::write_block_counts(edges, weights, block, block_count, ends, lower);
-    let bound = summing::bound(parents, top, reach);
-    let volume = summing::volume(block_count);
+    cost::write_edge_blocks(edges, block, edge_blocks);
+    cost::write_block_counts(edges, weights, block, block_count, ends, lower);
+    let bound = cost::bound(parents, top, reach);
+    let volume = cost::volume(block_count);
     ReportAnswer::Accepted { bound, volume }
 }
 
@@ -184,7 +182,7 @@ fn write_report(
 pub fn report(
     parents: &[u32],
     weights: &[u32],
-    bound: u32,
+    limit: u32,
     blocks: u32,
     edges: &[u32],
     carried: &mut [u32],
@@ -205,7 +203,7 @@ pub fn report(
         (lent (written (tables (now (carried .exit)) (now (top .exit)) (now (block .exit)) (now («block_loads» .exit))) (now («edge_blocks» .exit)) (now (reach .exit)) (now («block_count» .exit)))
         (net (now («compared_parents» .exit)) (now («compared_weights» .exit)))
         (workOf (now (ends .exit)) (now (jump .exit)) (now (lower .exit))))
-        ≡ reportOutcome (net (now (parents .entry)) (now (weights .entry))) bound blocks (now (edges .entry))
+        ≡ reportOutcome (net (now (parents .entry)) (now (weights .entry))) limit blocks (now (edges .entry))
         (lent (written (tables (now (carried .entry)) (now (top .entry)) (now (block .entry)) (now («block_loads» .entry))) (now («edge_blocks» .entry)) (now (reach .entry)) (now («block_count» .entry)))
         (net (now («compared_parents» .entry)) (now («compared_weights» .entry)))
         (workOf (now (ends .entry)) (now (jump .entry)) (now (lower .entry)))) ⌝ }
@@ -232,7 +230,7 @@ pub fn report(
         )
         | wrong_work(n, n + m, ends.len(), jump.len(), lower.len())
         | (edges.len() % 2 != 0);
-    let code = early_refusal(parents, weights, bound, blocks, edges, wrong);
+    let code = early_refusal(parents, weights, limit, blocks, edges, wrong);
     if code != 0 {
         return ReportAnswer::Refused(code);
     }
@@ -251,7 +249,7 @@ pub fn report(
     write_report(
         parents,
         weights,
-        bound,
+        limit,
         edges,
         carried,
         top,

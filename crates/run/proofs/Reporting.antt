@@ -21,7 +21,7 @@ use Rattle.net.specs.Damage.{damagedBy, damaged}
 use Rattle.forest.specs.Work.{badWork}
 use Rattle.partition.specs.Divide.{tooHeavy, wrongTables}
 use Rattle.decimal.specs.Put.{Put}
-use Rattle.report.specs.Figures.{boundOf, volumeOf}
+use Rattle.cost.specs.Figures.{boundOf, volumeOf}
 use Rattle.report.specs.Answer.{Reply, replied}
 use Rattle.report.specs.Report.{Written, Lent, ReportOutcome, reported, wrongFigures, wrongLent, earlyRefusal, lateRefusal, reportRefusal, figures, reportOutcome}
 use Rattle.report.proofs.Own.{same-passes}

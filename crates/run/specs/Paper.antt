@@ -11,7 +11,7 @@ use Rattle.game.specs.Net.{netOf, reach}
 use Rattle.refusal.specs.Refusal.{given, first, unless, wrongLength, fault, firstFault}
 use Rattle.relabel.specs.Relabel.{badOrder, relabelled}
 use Rattle.partition.specs.Divide.{badLimits, tooHeavy, divided}
-use Rattle.report.specs.Figures.{filtered, edgeBlock, edgeBlocks, touches, blocksAt, different, blockCount, isCut, bound, volume, boundOf, volumeOf}
+use Rattle.cost.specs.Figures.{filtered, edgeBlock, edgeBlocks, touches, blocksAt, different, blockCount, isCut, bound, volume, boundOf, volumeOf}
 use Rattle.report.specs.Report.{figures}
 use Rattle.words.specs.Word.{bytesOf, words, wordAt}
 use Rattle.decimal.specs.Ascii.{ascii}

@@ -14,7 +14,7 @@ use Rattle.game.specs.Net.{Net, netOf}
 use Rattle.refusal.specs.Refusal.{unless}
 use Rattle.decimal.specs.Ascii.{ascii}
 use Rattle.decimal.specs.Decimal.{decimal}
-use Rattle.report.specs.Figures.{boundOf, volumeOf}
+use Rattle.cost.specs.Figures.{boundOf, volumeOf}
 use Rattle.report.specs.Report.{Written, figures}
 use Rattle.run.specs.Files.{Files, order, limit, blocks}
 use Rattle.run.specs.Run.{rankedEdges, runRefusal}

@@ -55,24 +55,24 @@ fn first_of(one: u32, other: u32) -> u32
 }
 
 // Refusal 8, or 0.
-fn limit_refusal(bound: u32, blocks: u32) -> u32
-    ensures { λ r. ⌜ r ≡ given (badLimits bound blocks) 8 ⌝ }
+fn limit_refusal(limit: u32, blocks: u32) -> u32
+    ensures { λ r. ⌜ r ≡ given (badLimits limit blocks) 8 ⌝ }
 {
-    if partition::bad_limits(bound, blocks) {
+    if partition::bad_limits(limit, blocks) {
         return 8;
     }
     0
 }
 
 // Refusal 3, 8, 4 or 5 of what the files say, or 0.
-fn content_refusal(order: &[u32], edges: &[u32], bound: u32, blocks: u32) -> u32
+fn content_refusal(order: &[u32], edges: &[u32], limit: u32, blocks: u32) -> u32
     requires { ⌜ length (now order) ≤ vertexCapacity ⌝ }
-    ensures { λ r. ⌜ r ≡ contentRefusal (now (order .entry)) (now (edges .entry)) bound blocks ⌝ }
+    ensures { λ r. ⌜ r ≡ contentRefusal (now (order .entry)) (now (edges .entry)) limit blocks ⌝ }
 {
     if relabel::bad_order(order) {
         return 3;
     }
-    let limits = limit_refusal(bound, blocks);
+    let limits = limit_refusal(limit, blocks);
     let fault = refusal::list_fault(order.len(), edges);
     first_of(limits, fault)
 }

@@ -49,7 +49,7 @@ fn report_on(
     ranked: &[u32],
     parents: &[u32],
     weights: &[u32],
-    bound: u32,
+    limit: u32,
     blocks: u32,
     carried: &mut [u32],
     top: &mut [u32],
@@ -65,16 +65,16 @@ fn report_on(
     lower: &mut [u32],
     text: &mut [u8],
 ) -> usize
-    requires { ⌜ Ready (now order) (now ranked) bound blocks (net (now parents) (now weights))
+    requires { ⌜ Ready (now order) (now ranked) limit blocks (net (now parents) (now weights))
         (lent (written (tables (now carried) (now top) (now block) (now «block_loads»)) (now «edge_blocks») (now reach) (now «block_count»))
         (net (now «compared_parents») (now «compared_weights»)) (workOf (now ends) (now jump) (now lower))) ⌝ }
     requires { ⌜ textRoom ≤ length (now text) ⌝ }
-    ensures { λ r. ⌜ Put (now (text .entry)) 0 (netText (now (order .entry)) (edgesOf (now (ranked .entry))) bound blocks) (now (text .exit)) r ⌝ }
+    ensures { λ r. ⌜ Put (now (text .entry)) 0 (netText (now (order .entry)) (edgesOf (now (ranked .entry))) limit blocks) (now (text .exit)) r ⌝ }
 {
     let answer = report::report(
         parents,
         weights,
-        bound,
+        limit,
         blocks,
         ranked,
         carried,
@@ -107,7 +107,7 @@ fn report_on(
 fn divide(
     order: &[u32],
     edges: &[u32],
-    bound: u32,
+    limit: u32,
     blocks: u32,
     ranked: &mut [u32],
     parents: &mut [u32],
@@ -126,13 +126,13 @@ fn divide(
     lower: &mut [u32],
     text: &mut [u8],
 ) -> usize
-    requires { ⌜ Runnable (now order) (now edges) × (badLimits bound blocks ≡ false) ⌝ }
+    requires { ⌜ Runnable (now order) (now edges) × (badLimits limit blocks ≡ false) ⌝ }
     requires { ⌜ GrowRoom (now order) (now edges) (now ranked) (net (now parents) (now weights)) (workOf (now ends) (now jump) (now lower)) ⌝ }
     requires { ⌜ ReportRoom (length (now order)) (length (edgesOf (now edges))) blocks
         (lent (written (tables (now carried) (now top) (now block) (now «block_loads»)) (now «edge_blocks») (now reach) (now «block_count»))
         (net (now «compared_parents») (now «compared_weights»)) (workOf (now ends) (now jump) (now lower))) ⌝ }
     requires { ⌜ textRoom ≤ length (now text) ⌝ }
-    ensures { λ r. ⌜ Put (now (text .entry)) 0 (netText (now (order .entry)) (edgesOf (relabelled (now (order .entry)) (now (edges .entry)))) bound blocks) (now (text .exit)) r ⌝ }
+    ensures { λ r. ⌜ Put (now (text .entry)) 0 (netText (now (order .entry)) (edgesOf (relabelled (now (order .entry)) (now (edges .entry)))) limit blocks) (now (text .exit)) r ⌝ }
 {
     grow(order, edges, ranked, parents, weights, ends, jump, lower);
     report_on(
@@ -140,7 +140,7 @@ fn divide(
         ranked,
         parents,
         weights,
-        bound,
+        limit,
         blocks,
         carried,
         top,
@@ -168,7 +168,7 @@ fn wide(x: u32) -> usize
 fn divide_parts(
     n: usize,
     edge_ends: usize,
-    bound: u32,
+    limit: u32,
     blocks: u32,
     order: &[u32],
     edges: &[u32],
@@ -189,13 +189,13 @@ fn divide_parts(
     lower: &mut [u32],
     text: &mut [u8],
 ) -> usize
-    requires { ⌜ Runnable (take n (now order)) (take «edge_ends» (now edges)) × (badLimits bound blocks ≡ false) ⌝ }
+    requires { ⌜ Runnable (take n (now order)) (take «edge_ends» (now edges)) × (badLimits limit blocks ≡ false) ⌝ }
     requires { ⌜ (n ≤ vertexCapacity) × («edge_ends» ≤ endCapacity) ⌝ }
     requires { ⌜ Full (now order) (now edges) (now ranked) (net (now parents) (now weights))
         (lent (written (tables (now carried) (now top) (now block) (now «block_loads»)) (now «edge_blocks») (now reach) (now «block_count»))
         (net (now «compared_parents») (now «compared_weights»)) (workOf (now ends) (now jump) (now lower))) ⌝ }
     requires { ⌜ textRoom ≤ length (now text) ⌝ }
-    ensures { λ r. ⌜ Put (now (text .entry)) 0 (netText (take n (now (order .entry))) (edgesOf (relabelled (take n (now (order .entry))) (take «edge_ends» (now (edges .entry))))) bound blocks) (now (text .exit)) r ⌝ }
+    ensures { λ r. ⌜ Put (now (text .entry)) 0 (netText (take n (now (order .entry))) (edgesOf (relabelled (take n (now (order .entry))) (take «edge_ends» (now (edges .entry))))) limit blocks) (now (text .exit)) r ⌝ }
 {
     let k = wide(blocks);
     let m = edge_ends / 2;
@@ -203,7 +203,7 @@ fn divide_parts(
     divide(
         &order[..n],
         &edges[..edge_ends],
-        bound,
+        limit,
         blocks,
         &mut ranked[..edge_ends],
         &mut parents[..n],
