@@ -8,7 +8,7 @@ ghost use mathlib.Core.Path.{_≡_};
 ghost use Rattle.game.specs.Net.{net};
 ghost use Rattle.refusal.specs.Answer.{number};
 ghost use Rattle.refusal.specs.Outcome.{ended};
-ghost use Rattle.forest.specs.Work.{growing, workOf};
+ghost use Rattle.growth.specs.Work.{growing, workOf};
 ghost use Rattle.forest.specs.Start.{startOutcome};
 ghost use Rattle.forest.specs.Add.{addOutcome};
 ghost use Rattle.forest.specs.Join.{joinOutcome};

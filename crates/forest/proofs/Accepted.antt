@@ -15,11 +15,11 @@ use Rattle.refusal.specs.Refusal.{badCount, firstFault, wrongLength}
 use Rattle.refusal.proofs.First.{first-none, given-none, good-count, length-right}
 use Rattle.net.specs.Damage.{damaged}
 use Rattle.net.proofs.Scan.{undamaged}
-use Rattle.forest.specs.Work.{Work, Growing, badWork}
+use Rattle.growth.specs.Work.{Work, Growing, badWork}
 use Rattle.forest.specs.Start.{startRefusal}
 use Rattle.forest.specs.Add.{addRefusal}
 use Rattle.forest.specs.Join.{joinRefusal}
-use Rattle.forest.proofs.Rooms.{good-work}
+use Rattle.growth.proofs.Rooms.{good-work}
 
 -- a net of few vertices whose tables fit and are not damaged
 pub record Whole (of : Net) : Type 0 where

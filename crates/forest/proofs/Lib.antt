@@ -1,11 +1,5 @@
-pub mod Climb
-pub mod Raise
-pub mod Rooms
 pub mod Tests
 pub mod Accepted
-pub mod Regrown
 pub mod Outcomes
 pub mod Summed
-pub mod Exchange
-pub mod Put
 pub mod Laws

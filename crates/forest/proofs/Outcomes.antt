@@ -22,13 +22,13 @@ use Rattle.refusal.proofs.Fault.{faultless-proper}
 use Rattle.bucket.specs.Ends.{tallied}
 use Rattle.bucket.specs.Filed.{Filed}
 use Rattle.bucket.proofs.Tallied.{tally-weights}
-use Rattle.forest.specs.Work.{Growing, growing, workOf, cleared}
+use Rattle.growth.specs.Work.{Growing, growing, workOf, cleared}
 use Rattle.forest.specs.Add.{grown}
 use Rattle.forest.specs.Join.{joined}
-use Rattle.forest.specs.Growth.{Regrows}
-use Rattle.forest.specs.Putting.{Extendable, Extends}
-use Rattle.forest.proofs.Regrown.{regrown}
-use Rattle.forest.proofs.Rooms.{same-room}
+use Rattle.growth.specs.Growth.{Regrows}
+use Rattle.growth.specs.Putting.{Extendable, Extends}
+use Rattle.growth.proofs.Regrown.{regrown}
+use Rattle.growth.proofs.Rooms.{same-room}
 use Rattle.forest.proofs.Accepted.{Whole, Room, Addable, Joinable}
 
 -- tables without parents and weights are the net of no edge

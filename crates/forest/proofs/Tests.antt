@@ -13,7 +13,7 @@ use Rattle.game.specs.Net.{Net, total}
 use Rattle.game.proofs.Edges.{edges-length}
 use Rattle.refusal.specs.Limits.{maxTotal}
 use Rattle.net.specs.Damage.{damagedBy, damaged}
-use Rattle.forest.specs.Work.{Work, badWork}
+use Rattle.growth.specs.Work.{Work, badWork}
 
 -- the room that the code asks for, by half the list's length
 pub work-length : (n : ℕ) (xs : List ℕ) (w : Work) {t : Bool} → badWork n (n + length xs / 2) w ≡ t → badWork n (n + length (edges xs)) w ≡ t

@@ -13,7 +13,7 @@ use Rattle.refusal.specs.Limits.{maxTotal}
 use Rattle.refusal.specs.Refusal.{given, first, badCount, wrongLength, odd, firstFault}
 use Rattle.refusal.specs.Outcome.{Outcome, decided}
 use Rattle.net.specs.Damage.{damaged}
-use Rattle.forest.specs.Work.{Growing, badWork, cleared}
+use Rattle.growth.specs.Work.{Growing, badWork, cleared}
 
 -- a net with edges added
 unfoldable pub grown : Net → List Edge → Net

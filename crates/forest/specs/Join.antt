@@ -12,7 +12,7 @@ use Rattle.refusal.specs.Limits.{maxTotal}
 use Rattle.refusal.specs.Refusal.{given, first, badCount, wrongLength}
 use Rattle.refusal.specs.Outcome.{Outcome, decided}
 use Rattle.net.specs.Damage.{damaged}
-use Rattle.forest.specs.Work.{Growing, badWork, cleared}
+use Rattle.growth.specs.Work.{Growing, badWork, cleared}
 
 -- two nets joined
 unfoldable pub joined : Net → Net → Net

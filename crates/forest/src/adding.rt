@@ -1,11 +1,9 @@
 // Adding edges to a net.
-use crate::putting;
-use crate::work;
 use net::Forest;
 use refusal::Answer;
 ghost use mathlib.Core.Path.{_≡_};
 ghost use Rattle.game.specs.Net.{net};
-ghost use Rattle.forest.specs.Work.{growing, workOf};
+ghost use Rattle.growth.specs.Work.{growing, workOf};
 ghost use Rattle.refusal.specs.Answer.{number};
 ghost use Rattle.refusal.specs.Outcome.{ended};
 ghost use Rattle.forest.specs.Add.{addRefusal, addOutcome};
@@ -31,7 +29,7 @@ fn add_refusal(
     if edges.len() % 2 != 0 {
         return 2;
     }
-    if work::bad_work(n, n + edges.len() / 2, ends, jump, lower) {
+    if growth::bad_work(n, n + edges.len() / 2, ends, jump, lower) {
         return 2;
     }
     let forest = Forest::of(parents, weights);
@@ -66,6 +64,6 @@ pub fn add(
         return Answer::Refused(code);
     }
     bucket::tally(weights, edges, false);
-    putting::extend(parents, edges, ends, jump, lower);
+    growth::extend(parents, edges, ends, jump, lower);
     Answer::Accepted
 }

@@ -1,6 +1,4 @@
 // Joining a second net into a first.
-use crate::grow;
-use crate::work;
 use net::Forest;
 use refusal::Answer;
 ghost use mathlib.Core.Path.{_≡_};
@@ -8,7 +6,7 @@ ghost use mathlib.Core.List.{zipWith};
 ghost use Prim.Native.Nat.{_+_, _^_, _<_};
 ghost use lib.ListN.{length};
 ghost use Rattle.game.specs.Net.{net};
-ghost use Rattle.forest.specs.Work.{growing, workOf};
+ghost use Rattle.growth.specs.Work.{growing, workOf};
 ghost use Rattle.game.specs.Table.{sum};
 ghost use Rattle.refusal.specs.Answer.{number};
 ghost use Rattle.refusal.specs.Outcome.{ended};
@@ -40,7 +38,7 @@ fn join_refusal(
     if other_weights.len() != m {
         return 2;
     }
-    if work::bad_work(n, n + m, ends, jump, lower) {
+    if growth::bad_work(n, n + m, ends, jump, lower) {
         return 2;
     }
     if m != n {
@@ -99,6 +97,6 @@ pub fn join(
     }
     add_table(weights, other_weights);
     bucket::file_links(parents, other_parents, ends, lower);
-    grow::regrow(parents, ends, jump, lower);
+    growth::regrow(parents, ends, jump, lower);
     Answer::Accepted
 }

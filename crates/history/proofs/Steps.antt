@@ -20,7 +20,7 @@ use Rattle.refusal.specs.Outcome.{Outcome, decided}
 use Rattle.refusal.proofs.First.{unless-part}
 use Rattle.refusal.proofs.Fault.{faultless-proper}
 use Rattle.net.specs.Damage.{damaged}
-use Rattle.forest.specs.Work.{Work, Growing, growing, cleared}
+use Rattle.growth.specs.Work.{Work, Growing, growing, cleared}
 use Rattle.forest.specs.Start.{startRefusal, startOutcome}
 use Rattle.forest.specs.Add.{grown, addRefusal, addOutcome}
 use Rattle.forest.specs.Join.{joined, joinRefusal, joinOutcome}

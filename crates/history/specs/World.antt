@@ -13,7 +13,7 @@ use Prim.Native.Nat.{ℕ}
 use lib.Dec.{eqb}
 use Rattle.game.specs.Net.{Net}
 use Rattle.refusal.specs.Outcome.{Outcome}
-use Rattle.forest.specs.Work.{Work, growing}
+use Rattle.growth.specs.Work.{Work, growing}
 use Rattle.forest.specs.Start.{startOutcome}
 use Rattle.forest.specs.Add.{addOutcome}
 use Rattle.forest.specs.Join.{joinOutcome}

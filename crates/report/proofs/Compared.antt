@@ -19,7 +19,7 @@ use Rattle.refusal.specs.Refusal.{badCount, firstFault}
 use Rattle.refusal.specs.Outcome.{Outcome, ended, decided}
 use Rattle.refusal.proofs.First.{pass, first-pass, first-end, right-length, even-list, unless-accepted}
 use Rattle.net.specs.Damage.{damagedBy, damaged}
-use Rattle.forest.specs.Work.{Work, workOf, Growing, growing, badWork, cleared}
+use Rattle.growth.specs.Work.{Work, workOf, Growing, growing, badWork, cleared}
 use Rattle.forest.specs.Start.{startRefusal, startOutcome}
 use Rattle.forest.specs.Add.{addRefusal, addOutcome}
 use Rattle.forest.proofs.Laws.{grown-net}

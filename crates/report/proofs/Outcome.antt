@@ -10,7 +10,7 @@ use Rattle.game.specs.Edge.{edges}
 use Rattle.game.specs.Net.{Net, netOf, weights}
 use Rattle.refusal.specs.Refusal.{first}
 use Rattle.refusal.proofs.First.{first-pass, first-stop, first-last, unless-refused, unless-accepted, given-true}
-use Rattle.forest.specs.Work.{Work, workOf, cleared, zeros}
+use Rattle.growth.specs.Work.{Work, workOf, cleared, zeros}
 use Rattle.partition.proofs.Refused.{accepted as divides-accepted}
 use Rattle.reach.specs.Given.{IsNetOf}
 use Rattle.cost.specs.Figures.{boundOf, volumeOf}

@@ -15,8 +15,8 @@ use Rattle.game.proofs.Bools.{or-neither}
 use Rattle.refusal.specs.Limits.{maxEdges}
 use Rattle.refusal.specs.Refusal.{badCount, wrongLength, odd, firstFault}
 use Rattle.refusal.proofs.First.{first-none, given-none, good-count, length-right, list-even}
-use Rattle.forest.specs.Work.{workOf, badWork}
-use Rattle.forest.proofs.Rooms.{good-work}
+use Rattle.growth.specs.Work.{workOf, badWork}
+use Rattle.growth.proofs.Rooms.{good-work}
 use Rattle.partition.specs.Divide.{tables, wrongTables, divideRefusal}
 use Rattle.partition.proofs.Refused.{Sized, tables-not, refused-not}
 use Rattle.report.specs.Compare.{Comparable}

@@ -14,7 +14,7 @@ use Rattle.game.specs.Edge.{Edge, edges}
 use Rattle.game.specs.Net.{Net, netOf}
 use Rattle.refusal.specs.Limits.{maxVertices, maxEdges}
 use Rattle.refusal.specs.Refusal.{firstFault}
-use Rattle.forest.specs.Work.{Work, cleared}
+use Rattle.growth.specs.Work.{Work, cleared}
 
 -- two tables with the same entries
 unfoldable pub sameTable : List ℕ → List ℕ → Bool

@@ -12,7 +12,7 @@ use Rattle.game.specs.Tree.{sound}
 use Rattle.game.specs.Net.{Net, net, netOf, reach}
 use Rattle.refusal.specs.Refusal.{given, first, unless, badCount, wrongLength, odd, fault, firstFault}
 use Rattle.net.specs.Damage.{damagedBy, damaged}
-use Rattle.forest.specs.Work.{workOf, badWork, zeros, cleared}
+use Rattle.growth.specs.Work.{workOf, badWork, zeros, cleared}
 use Rattle.partition.specs.Divide.{tables, badLimits, tooHeavy, divided, wrongTables}
 use Rattle.cost.specs.Figures.{filtered, edgeBlock, edgeBlocks, touches, blocksAt, different, blockCount, isCut, bound, volume, boundOf, volumeOf}
 use Rattle.report.specs.Compare.{sameTable, sameNet}

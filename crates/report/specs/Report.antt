@@ -18,7 +18,7 @@ use Rattle.game.specs.Net.{Net, netOf, reach}
 use Rattle.refusal.specs.Limits.{maxEdges}
 use Rattle.refusal.specs.Refusal.{given, first, unless, badCount, wrongLength, odd, firstFault}
 use Rattle.net.specs.Damage.{damaged}
-use Rattle.forest.specs.Work.{Work, badWork, cleared}
+use Rattle.growth.specs.Work.{Work, badWork, cleared}
 use Rattle.partition.specs.Divide.{Tables, tables, badLimits, tooHeavy, divided, wrongTables}
 use Rattle.cost.specs.Figures.{edgeBlocks, blockCount, boundOf, volumeOf}
 use Rattle.report.specs.Compare.{sameNet}

@@ -3,7 +3,7 @@ ghost use mathlib.Core.Path.{_≡_};
 ghost use lib.ListN.{length};
 ghost use Rattle.game.specs.Edge.{edges as edgesOf};
 ghost use Rattle.game.specs.Net.{net, netOf};
-ghost use Rattle.forest.specs.Work.{workOf, growing, cleared};
+ghost use Rattle.growth.specs.Work.{workOf, growing, cleared};
 ghost use Rattle.report.specs.Compare.{sameTable, comparison, compared, Growable, Comparable};
 
 // Whether two tables of one length have the same entries.

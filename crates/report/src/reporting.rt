@@ -13,7 +13,7 @@ ghost use Rattle.game.specs.Edge.{edges as edgesOf};
 ghost use Rattle.game.specs.Net.{net};
 ghost use Rattle.refusal.specs.Refusal.{wrongLength};
 ghost use Rattle.partition.specs.Divide.{tables};
-ghost use Rattle.forest.specs.Work.{workOf};
+ghost use Rattle.growth.specs.Work.{workOf};
 ghost use Rattle.report.specs.Report.{earlyRefusal, written, lent, reported, reportOutcome};
 ghost use Rattle.report.specs.Answer.{reply};
 ghost use Rattle.report.specs.Work.{Reportable, Spread, Answered};

@@ -9,7 +9,7 @@ use lib.ListN.{length}
 use Rattle.game.specs.Edge.{edges}
 use Rattle.game.specs.Net.{Net, netOf}
 use Rattle.refusal.specs.Refusal.{firstFault}
-use Rattle.forest.specs.Work.{workOf}
+use Rattle.growth.specs.Work.{workOf}
 use Rattle.relabel.specs.Relabel.{relabelled}
 use Rattle.relabel.proofs.Relabelled.{relabelled-faultless}
 use Rattle.partition.specs.Divide.{badLimits}

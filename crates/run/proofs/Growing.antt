@@ -14,7 +14,7 @@ use Rattle.refusal.specs.Limits.{maxVertices}
 use Rattle.refusal.specs.Refusal.{badCount, firstFault}
 use Rattle.refusal.specs.Outcome.{Outcome, ended, decided}
 use Rattle.refusal.proofs.First.{pass, first-last, right-length, even-list, unless-accepted}
-use Rattle.forest.specs.Work.{workOf, Growing, growing}
+use Rattle.growth.specs.Work.{workOf, Growing, growing}
 use Rattle.forest.specs.Start.{startOutcome}
 use Rattle.forest.specs.Add.{addOutcome}
 use Rattle.relabel.specs.Relabel.{relabelled, inverseOf, Tables, tables, relabelRefusal, relabelOutcome}

@@ -10,7 +10,7 @@ use lib.Seq.{length-take-le}
 use Rattle.game.specs.Edge.{edges}
 use Rattle.game.specs.Net.{net}
 use Rattle.game.proofs.Edges.{edges-length}
-use Rattle.forest.specs.Work.{workOf}
+use Rattle.growth.specs.Work.{workOf}
 use Rattle.partition.specs.Divide.{badLimits, tables, maxBlocks}
 use Rattle.partition.proofs.Refused.{limits-not}
 use Rattle.report.specs.Report.{written, lent}

@@ -18,7 +18,7 @@ use Rattle.refusal.specs.Refusal.{given, first, unless, badCount, firstFault}
 use Rattle.refusal.proofs.First.{pass, first-pass, first-last, right-length, even-list, unless-accepted}
 use Rattle.refusal.proofs.Fault.{faultless-proper}
 use Rattle.net.specs.Damage.{damagedBy, damaged}
-use Rattle.forest.specs.Work.{badWork}
+use Rattle.growth.specs.Work.{badWork}
 use Rattle.partition.specs.Divide.{tooHeavy, wrongTables}
 use Rattle.decimal.specs.Put.{Put}
 use Rattle.cost.specs.Figures.{boundOf, volumeOf}

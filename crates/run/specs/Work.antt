@@ -9,7 +9,7 @@ use lib.ListN.{length, take}
 use Rattle.game.specs.Edge.{Edge, edges}
 use Rattle.game.specs.Net.{Net, netOf}
 use Rattle.refusal.specs.Refusal.{given, first, unless, firstFault}
-use Rattle.forest.specs.Work.{Work}
+use Rattle.growth.specs.Work.{Work}
 use Rattle.relabel.specs.Relabel.{badOrder, relabelled}
 use Rattle.partition.specs.Divide.{badLimits, tooHeavy, maxBlocks}
 use Rattle.report.specs.Answer.{Reply, accepted, refused}

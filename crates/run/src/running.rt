@@ -14,7 +14,7 @@ ghost use lib.ListN.{length, take, drop};
 ghost use Rattle.game.specs.Edge.{edges as edgesOf};
 ghost use Rattle.game.specs.Net.{net};
 ghost use Rattle.decimal.specs.Put.{Put};
-ghost use Rattle.forest.specs.Work.{workOf};
+ghost use Rattle.growth.specs.Work.{workOf};
 ghost use Rattle.partition.specs.Divide.{badLimits, tables};
 ghost use Rattle.report.specs.Report.{written, lent};
 ghost use Rattle.relabel.specs.Relabel.{relabelled};

@@ -12,7 +12,6 @@ use Rattle.forest.proofs.adding.add.Reads as reads
 use Rattle.forest.proofs.adding.add.Lts as lts
 use Rattle.bucket.proofs.tally.Reads as tally-reads
 use Rattle.forest.proofs.adding.add_refusal.Reads as add-refusal-reads
-use Rattle.forest.proofs.putting.extend.Reads as extend-reads
 
 add-refusal-requires : tie.Need-add-refusal-requires
 add-refusal-requires c κs = search needs

@@ -6,14 +6,13 @@ use Rattle.refusal.proofs.Ends.{ends-refused, ends-accepted}
 use Rattle.forest.specs.Join.{joinOutcome}
 use Rattle.forest.proofs.Accepted.{joinable}
 use Rattle.forest.proofs.Outcomes.{join-ends}
-use Rattle.forest.proofs.Regrown.{filed-roomy}
+use Rattle.growth.proofs.Regrown.{filed-roomy}
 use borrow.Author.Needs.{needs}
 use Rattle.forest.proofs.joining.join.Statement.{statement}
 use Rattle.forest.proofs.joining.join.Tie as tie
 use Rattle.forest.proofs.joining.join.Reads as reads
 use Rattle.forest.proofs.joining.join.Lts as lts
 use Rattle.bucket.proofs.file_links.Reads as file-links-reads
-use Rattle.forest.proofs.grow.regrow.Reads as regrow-reads
 use Rattle.forest.proofs.joining.add_table.Reads as add-table-reads
 use Rattle.forest.proofs.joining.join_refusal.Reads as join-refusal-reads
 

@@ -9,7 +9,6 @@ use Rattle.forest.proofs.joining.join_refusal.Statement.{statement}
 use Rattle.forest.proofs.joining.join_refusal.Tie as tie
 use Rattle.forest.proofs.joining.join_refusal.Reads as reads
 use Rattle.forest.proofs.joining.join_refusal.Lts as lts
-use Rattle.forest.proofs.work.bad_work.Reads as bad-work-reads
 use Rattle.net.proofs.Forest.is_damaged.Reads as is-damaged-reads
 use Rattle.net.proofs.Forest.of.Reads as of-reads
 use Rattle.refusal.proofs.bad_count.Reads as bad-count-reads

@@ -7,7 +7,7 @@ use mathlib.Core.Path.{refl, sym, ap, _∙_}
 use borrow.Author.Tests.{not-true, not-false}
 use Rattle.partition.specs.Divide.{tables}
 use Rattle.game.specs.Net.{net}
-use Rattle.forest.specs.Work.{workOf}
+use Rattle.growth.specs.Work.{workOf}
 use Rattle.report.proofs.reporting.report.Statement.{statement}
 use Rattle.report.proofs.reporting.report.Tie as tie
 

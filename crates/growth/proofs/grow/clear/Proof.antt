@@ -1,0 +1,41 @@
+use native.Mathlib.Omega.{arith}
+use Rattle.growth.proofs.Rooms.{work-cleared}
+use borrow.Author.Needs.{needs}
+use Rattle.growth.proofs.grow.clear.Statement.{statement}
+use Rattle.growth.proofs.grow.clear.Tie as tie
+use Rattle.growth.proofs.grow.clear.Reads as reads
+use Rattle.growth.proofs.grow.clear.Lts as lts
+use Rattle.table.proofs.fill.Reads as fill-reads
+
+fill-requires : tie.Need-fill-requires
+fill-requires c κs = search needs
+
+fill-requires-2 : tie.Need-fill-requires-2
+fill-requires-2 c κs = search needs
+
+fill-requires-3 : tie.Need-fill-requires-3
+fill-requires-3 c κs = search needs
+
+same-length : tie.Need-same-length
+same-length c = search needs
+
+same-length-2 : tie.Need-same-length-2
+same-length-2 c = search needs
+
+same-length-3 : tie.Need-same-length-3
+same-length-3 c = search needs
+
+returns : tie.Need-returns
+returns c = work-cleared _ _ _ (c .before .before .before .before .before .before .before .before .before .before .fill .ensures) (c .before .before .before .before .before .before .fill2 .ensures) (c .before .before .fill3 .ensures)
+
+pub clear-spec : {M : Type 1} → statement M
+clear-spec =
+    tie.close
+    (tie.spec
+    fill-requires
+    fill-requires-2
+    fill-requires-3
+    same-length
+    same-length-2
+    same-length-3
+    returns)

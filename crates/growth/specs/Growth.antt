@@ -1,0 +1,125 @@
+-- Where the growth of a forest stands: what the private functions below promise each other. No public contract cites this.
+--
+-- The graph E is taken in edge by edge, by rising upper end y. Two tables: p holds the forest's parents so far, jump holds for each
+-- vertex that has a parent a higher one, found by climbing, from which the next climb goes on (path compression).
+-- Assumes nothing.
+use mathlib.Core.Path.{_≡_}
+use mathlib.Core.Logic.{_⊎_}
+use mathlib.Core.List.{List}
+use Prim.Native.Nat.{ℕ, _≤_, _<_}
+use lib.ListN.{length, getD, replicate}
+use Rattle.game.specs.Edge.{Edge}
+use Rattle.game.specs.Game.{absent, forest}
+use Rattle.game.specs.Tree.{links}
+use Rattle.game.proofs.Conn.{Conn, Linked}
+use Rattle.game.proofs.Proper.{Proper}
+use Rattle.refusal.specs.Limits.{maxVertices}
+use Rattle.growth.specs.Work.{workOf, cleared}
+use Rattle.bucket.specs.Ends.{below}
+use Rattle.bucket.specs.Filed.{Filed}
+
+-- neither table has an entry for z
+pub record Root (p jump : List ℕ) (z : ℕ) : Type 0 where
+  pub no-parent : getD p z absent ≡ absent
+  pub no-jump : getD jump z absent ≡ absent
+
+-- q stands above z, not above y, and the graph joins the two at q's height
+pub record Above (E : List Edge) (y z q : ℕ) : Type 0 where
+  pub over : z < q
+  pub within : q ≤ y
+  pub walk : Conn E q z q
+
+-- the forest joins z to where it jumps; or, while a climb for y stands at w, z is one of those that it passed
+pub data Known (p : List ℕ) (y w z q : ℕ) : Type 0 where
+  known : Conn (links p) q z q → Known p y w z q
+  passed : q ≡ y → z < w → Conn (links p) w z w → Known p y w z q
+
+-- z has a parent and a jump
+pub record Child (E : List Edge) (y w : ℕ) (p jump : List ℕ) (z : ℕ) : Type 0 where
+  pub parent : Above E y z (getD p z absent)
+  pub leap : Above E y z (getD jump z absent)
+  pub joined : Known p y w z (getD jump z absent)
+
+-- the two tables while y's edges are taken in; w is where a climb stands, 0 when there is none
+pub record Standing (n : ℕ) (E : List Edge) (y w : ℕ) (p jump : List ℕ) : Type 0 where
+  pub small : n ≤ absent
+  pub long : length p ≡ n
+  pub long-jump : length jump ≡ n
+  pub each : (z : ℕ) → z < n → Root p jump z ⊎ Child E y w p jump z
+
+-- parents that were there are there still
+pub record Kept (was p : List ℕ) : Type 0 where
+  pub keeps : (z : ℕ) → (getD was z absent ≡ absent → ⊥) → getD p z absent ≡ getD was z absent
+
+-- a climb from u for y stands at w
+pub record Climbing (n : ℕ) (E : List Edge) (y u w : ℕ) (was p jump : List ℕ) : Type 0 where
+  pub standing : Standing n E y w p jump
+  pub top : y < n
+  pub reached : w ≤ y
+  pub edge : Conn E y u y
+  pub walk : Conn E w u w
+  pub trail : Conn (links p) w u w
+  pub kept : Kept was p
+
+-- the climb is done: the forest joins u to y
+pub record Climbed (n : ℕ) (E : List Edge) (y u : ℕ) (was p jump : List ℕ) : Type 0 where
+  pub standing : Standing n E y 0 p jump
+  pub joined : Conn (links p) y u y
+  pub kept : Kept was p
+
+-- a table of n jumps that lead higher, if anywhere: so a climb keeps within the tables and ends
+pub record Upward (n : ℕ) (jump : List ℕ) : Type 0 where
+  pub long : length jump ≡ n
+  pub up : (z : ℕ) → z < n → (getD jump z 0 ≡ absent) ⊎ (z < getD jump z 0)
+
+-- what a climb from u for y promises, for whatever graph the tables stand for
+pub record Climbs (u y : ℕ) (p jump p′ jump′ : List ℕ) : Type 0 where
+  pub upward : Upward (length p) jump′
+  pub climbed : (E : List Edge) → Standing (length p) E y 0 p jump → u < y → Conn E y u y → Climbed (length p) E y u p p′ jump′
+
+-- the places from .. to of the table of lower ends hold vertices that the graph joins to y from below
+pub record Offers (E : List Edge) (y from to : ℕ) (lower : List ℕ) : Type 0 where
+  pub offer : (i : ℕ) → from ≤ i → i < to → (getD lower i 0 < y) × Conn E y (getD lower i 0) y
+
+-- the forest joins them all to y
+pub record Gathered (n : ℕ) (E : List Edge) (y from to : ℕ) (lower was p jump : List ℕ) : Type 0 where
+  pub standing : Standing n E y 0 p jump
+  pub joined : (i : ℕ) → from ≤ i → i < to → Conn (links p) y (getD lower i 0) y
+  pub kept : Kept was p
+
+-- what gathering these places for y promises
+pub record Gathers (y from to : ℕ) (lower p jump p′ jump′ : List ℕ) : Type 0 where
+  pub upward : Upward (length p) jump′
+  pub gathered : (E : List Edge) → Standing (length p) E y 0 p jump → Offers E y from to lower → Gathered (length p) E y from to lower p p′ jump′
+
+-- the vertices below y are raised: every edge with an upper end below y is a walk in the forest; y's bucket starts at the place at
+pub record Raised (n : ℕ) (E : List Edge) (y at : ℕ) (p jump : List ℕ) : Type 0 where
+  pub standing : Standing n E y 0 p jump
+  pub start : at ≡ below y E
+  pub covered : (a b : ℕ) → Linked E a b → a < b → b < y → Conn (links p) b a b
+
+-- few vertices, and no bucket ends past the table of lower ends
+pub record Buckets (ends lower : List ℕ) : Type 0 where
+  pub few : length ends ≤ maxVertices
+  pub room : (y : ℕ) → y < length ends → getD ends y 0 ≤ length lower
+
+-- the tables before raising: no vertex has a parent or a jump
+pub record Blank (ends lower p jump : List ℕ) : Type 0 where
+  pub blank : p ≡ replicate (length ends) absent
+  pub blank-jump : jump ≡ replicate (length ends) absent
+  pub buckets : Buckets ends lower
+
+-- what raising promises of the table of parents: it is the elimination forest of whatever graph is filed
+pub record Raises (ends lower p : List ℕ) : Type 0 where
+  pub raised : (E : List Edge) → Proper (length ends) E → Filed (length ends) E ends lower → p ≡ forest (length ends) E
+
+-- a forest can be grown anew from what is filed, whatever the tables hold: their lengths fit
+pub record Roomy (ends lower p jump : List ℕ) : Type 0 where
+  pub long : length p ≡ length ends
+  pub long-jump : length jump ≡ length ends
+  pub buckets : Buckets ends lower
+
+-- what growing anew promises: the parents of whatever graph was filed, and cleared work tables
+pub record Regrows (ends lower jump p′ ends′ lower′ jump′ : List ℕ) : Type 0 where
+  pub grown : (E : List Edge) → Proper (length ends) E → Filed (length ends) E ends lower → p′ ≡ forest (length ends) E
+  pub clear : workOf ends′ jump′ lower′ ≡ cleared (workOf ends jump lower)
