@@ -1,5 +1,6 @@
 # The library for C and for what calls C: target/lib/libniqastul.a and target/lib/libniqastul.so, from the proved crate `exports`.
 #   make                       build (rt proves what it has not proved yet)
+#   make case                  the program `blocks` on the whole case of document 01
 #   make install PREFIX=/usr   the header, both libraries and niqastul.pc; DESTDIR is put before it
 #   make check                 the tests of the library and of the bindings
 #   make bench                 the measurements
@@ -11,7 +12,7 @@ SONAME = libniqastul.so.0
 
 SOURCES := crates.txt $(shell find crates -name '*.rt' -o -name '*.antt')
 
-.PHONY: all install uninstall check bench clean
+.PHONY: all case install uninstall check bench clean
 
 all: target/lib/libniqastul.a target/lib/libniqastul.so
 
@@ -25,6 +26,11 @@ target/lib/$(SONAME): target/lib/libniqastul.a
 
 target/lib/libniqastul.so: target/lib/$(SONAME)
 	ln -sf $(SONAME) $@
+
+case:
+	mkdir -p target
+	@rt check blocks >target/blocks.log 2>&1 || { cat target/blocks.log; exit 1; }
+	@cd crates/blocks/data && ../../../target/bin/blocks
 
 define PKG_CONFIG
 prefix=$(PREFIX)

@@ -5,3 +5,4 @@ pub mod Compared
 pub mod Refused
 pub mod Written
 pub mod Outcome
+pub mod Together
