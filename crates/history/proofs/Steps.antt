@@ -2,7 +2,7 @@
 -- file of the net of its list, and the list's edges are sound for the net's vertices.
 -- Assumes nothing.
 use mathlib.Core.Path.{_≡_, refl, sym, ap, ap₂, subst, _∙_}
-use mathlib.Core.Bool.{false}
+use mathlib.Core.Bool.{Bool, true, false}
 use mathlib.Core.List.{List, [], _∷_, _++_}
 use mathlib.Core.Option.{Option, none, some}
 use Prim.Native.Nat.{ℕ, zero, suc, _≤_, _<_, _^_, _*_}
@@ -34,7 +34,7 @@ use Rattle.partition.specs.Divide.{divideOutcome}
 use Rattle.report.specs.Answer.{answered}
 use Rattle.report.specs.Report.{reportOutcome}
 use Rattle.history.specs.World.{World, Call, start, add, join, save, read, relabel, divide, report, update, withNet, withFile, step}
-use Rattle.history.specs.Book.{Book, Entry, entry, enter, note, behind, started, added, joined as entered, saved, loaded, passed}
+use Rattle.history.specs.Book.{Book, Entry, entry, enter, note, isAccepted, behind, started, added, joined as entered, saved, loaded, passed}
 use Rattle.history.proofs.Update.{update-both, update-same}
 
 -- a vertex count that nets may have
@@ -67,15 +67,15 @@ pub record Kept (w : World) (b : Book) : Type 0 where
   pub files : (f : ℕ) → FileKept (w .files f) (b .files f)
 
 -- a call that writes one net, or one file: refused it leaves the old one, accepted it has to put in what its entry demands
-net-written : {w : World} {b : Book} (v : Kept w b) (i k : ℕ) (new : Net) (list : Option (List Edge)) (e : Entry) → enter b e ≡ record { nets = update (b .nets) i list; files = b .files } → (k ≡ 0 → NetKept new list) → Kept (withNet w i (unless k (w .nets i) new)) (note b e k)
-unfolding unless note
+net-written : {w : World} {b : Book} (v : Kept w b) (i k : ℕ) (new : Net) (list : Option (List Edge)) (e : Entry) → enter b e ≡ record { nets = update (b .nets) i list; files = b .files } → (k ≡ 0 → NetKept new list) → Kept (withNet w i (unless k (w .nets i) new)) (note b e (isAccepted k))
+unfolding unless note isAccepted
 net-written {w} {b} v i zero new list e q h =
     subst (Kept (withNet w i new)) (sym q) (record { nets = update-both NetKept (w .nets) (b .nets) (v .nets) i new list (h refl); files = v .files })
 net-written {w} {b} v i (suc k) new list e q h =
     record { nets = update-same NetKept (w .nets) (b .nets) (v .nets) i (w .nets i) refl; files = v .files }
 
-file-written : {w : World} {b : Book} (v : Kept w b) (f k : ℕ) (new : List ℕ) (list : Option (List Edge)) (e : Entry) → enter b e ≡ record { nets = b .nets; files = update (b .files) f list } → (k ≡ 0 → FileKept new list) → Kept (withFile w f (unless k (w .files f) new)) (note b e k)
-unfolding unless note
+file-written : {w : World} {b : Book} (v : Kept w b) (f k : ℕ) (new : List ℕ) (list : Option (List Edge)) (e : Entry) → enter b e ≡ record { nets = b .nets; files = update (b .files) f list } → (k ≡ 0 → FileKept new list) → Kept (withFile w f (unless k (w .files f) new)) (note b e (isAccepted k))
+unfolding unless note isAccepted
 file-written {w} {b} v f zero new list e q h =
     subst (Kept (withFile w f new)) (sym q) (record { nets = v .nets; files = update-both FileKept (w .files) (b .files) (v .files) f new list (h refl) })
 file-written {w} {b} v f (suc k) new list e q h =
@@ -181,23 +181,23 @@ loaded-kept bytes list v = record {
         (undamaged-parents of few (g .undamaged)) (undamaged-weights of few (g .undamaged))
 
 -- a call that stands between
-note-passed : (b : Book) (k : ℕ) → note b passed k ≡ b
+note-passed : (b : Book) (accepted : Bool) → note b passed accepted ≡ b
 unfolding note enter
-note-passed b zero = refl
-note-passed b (suc k) = refl
+note-passed b true = refl
+note-passed b false = refl
 
 -- every call
-pub step-keeps : {w : World} {b : Book} (c : Call) → Kept w b → Kept (step w c .tables) (note b (entry c) (step w c .answer))
+pub step-keeps : {w : World} {b : Book} (c : Call) → Kept w b → Kept (step w c .tables) (note b (entry c) (isAccepted (step w c .answer)))
 unfolding step entry decided enter startOutcome addOutcome joinOutcome saveOutcome readOutcome
 step-keeps {w} {b} (start i) v =
     net-written v i (startRefusal (w .nets i)) (netOf (length (w .nets i .parents)) []) (some []) (started i) refl (started-kept (w .nets i))
 step-keeps {w} {b} (add i xs work) v =
-    subst (λ (x : Net). Kept (withNet w i x) (note b (added i xs) (addRefusal (growing (w .nets i) work) xs)))
+    subst (λ (x : Net). Kept (withNet w i x) (note b (added i xs) (isAccepted (addRefusal (growing (w .nets i) work) xs))))
     (sym (unless-part (λ (g : Growing). g .net) (addRefusal (growing (w .nets i) work) xs) (growing (w .nets i) work) (growing (grown (w .nets i) (edges xs)) (cleared work))))
     (net-written v i (addRefusal (growing (w .nets i) work) xs) (grown (w .nets i) (edges xs)) (behind (b .nets i) (some (edges xs))) (added i xs) refl
     (added-kept (w .nets i) (b .nets i) xs work (v .nets i)))
 step-keeps {w} {b} (join i j different work) v =
-    subst (λ (x : Net). Kept (withNet w i x) (note b (entered i j) (joinRefusal (growing (w .nets i) work) (w .nets j))))
+    subst (λ (x : Net). Kept (withNet w i x) (note b (entered i j) (isAccepted (joinRefusal (growing (w .nets i) work) (w .nets j)))))
     (sym (unless-part (λ (g : Growing). g .net) (joinRefusal (growing (w .nets i) work) (w .nets j)) (growing (w .nets i) work) (growing (joined (w .nets i) (w .nets j)) (cleared work))))
     (net-written v i (joinRefusal (growing (w .nets i) work) (w .nets j)) (joined (w .nets i) (w .nets j)) (behind (b .nets i) (b .nets j)) (entered i j) refl
     (joined-kept (w .nets i) (w .nets j) (b .nets i) (b .nets j) work (v .nets i) (v .nets j)))
@@ -207,6 +207,6 @@ step-keeps {w} {b} (save i f) v =
 step-keeps {w} {b} (read i f) v =
     net-written v i (readRefusal (length (w .nets i .parents)) (length (w .nets i .weights)) (w .files f)) (fileNet (w .files f)) (b .files f) (loaded i f) refl
     (λ z. loaded-kept (w .files f) (b .files f) (v .files f))
-step-keeps {w} {b} (relabel order xs tables) v = subst (Kept w) (sym (note-passed b (relabelOutcome order xs tables .answer))) v
-step-keeps {w} {b} (divide i B k tables) v = subst (Kept w) (sym (note-passed b (divideOutcome (w .nets i) B k tables .answer))) v
-step-keeps {w} {b} (report i B k xs tables) v = subst (Kept w) (sym (note-passed b (answered (reportOutcome (w .nets i) B k xs tables .reply)))) v
+step-keeps {w} {b} (relabel order xs tables) v = subst (Kept w) (sym (note-passed b (isAccepted (relabelOutcome order xs tables .answer)))) v
+step-keeps {w} {b} (divide i B k tables) v = subst (Kept w) (sym (note-passed b (isAccepted (divideOutcome (w .nets i) B k tables .answer)))) v
+step-keeps {w} {b} (report i B k xs tables) v = subst (Kept w) (sym (note-passed b (isAccepted (answered (reportOutcome (w .nets i) B k xs tables .reply))))) v

@@ -54,10 +54,15 @@ enter b (saved i f) = record { nets = b .nets; files = update (b .files) f (b .n
 enter b (loaded i f) = record { nets = update (b .nets) i (b .files f); files = b .files }
 enter b passed = b
 
--- "Refused: nothing changes." A call was accepted if its answer is 0.
-unfoldable pub note : Book → Entry → ℕ → Book
-note b e zero = enter b e
-note b e (suc k) = b
+-- "Refused: nothing changes." The book is told whether the call was accepted.
+unfoldable pub note : Book → Entry → (accepted : Bool) → Book
+note b e true = enter b e
+note b e false = b
+
+-- a call was accepted if its answer is 0
+unfoldable pub isAccepted : ℕ → Bool
+isAccepted zero = true
+isAccepted (suc k) = false
 
 -- "At first all have none."
 unfoldable pub blank : Book

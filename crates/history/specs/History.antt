@@ -19,7 +19,7 @@ use Rattle.cost.specs.Figures.{boundOf, volumeOf}
 use Rattle.report.specs.Answer.{Reply, accepted, refused}
 use Rattle.report.specs.Report.{Lent, reportOutcome}
 use Rattle.history.specs.World.{World, Call, step}
-use Rattle.history.specs.Book.{Book, entry, note}
+use Rattle.history.specs.Book.{Book, entry, note, isAccepted}
 
 -- the world and the book after a list of calls: "Each call finds every net and file as the call before left it"
 unfoldable pub worldAfter : World → List Call → World
@@ -28,7 +28,7 @@ worldAfter w (c ∷ cs) = worldAfter (step w c .tables) cs
 
 unfoldable pub bookAfter : World → Book → List Call → Book
 bookAfter w b [] = b
-bookAfter w b (c ∷ cs) = bookAfter (step w c .tables) (note b (entry c) (step w c .answer)) cs
+bookAfter w b (c ∷ cs) = bookAfter (step w c .tables) (note b (entry c) (isAccepted (step w c .answer))) cs
 
 -- what a report, lent the list of a net, answers
 pub record Reports (net : Net) (ts : List Edge) (B k : ℕ) (reply : Reply) : Type 0 where
