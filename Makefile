@@ -28,7 +28,7 @@ target/lib/libniqastul.so: target/lib/$(SONAME)
 	ln -sf $(SONAME) $@
 
 case:
-	mkdir -p target
+	@mkdir -p target
 	@rt check blocks >target/blocks.log 2>&1 || { cat target/blocks.log; exit 1; }
 	@cd crates/blocks/data && ../../../target/bin/blocks
 
