@@ -18,13 +18,19 @@ def a_net(seed, most):
     return rng, f"seed {seed} shape {shape.__name__}", ties, parents_of(n, ties), loads_of(n, ties)
 
 
-@test(at_least=20_000, given="save" in PRESENT)
-def saved_and_read(t):
-    """A net is saved and read back into other tables, and its file, read, is saved as it was."""
+def sound_nets():
+    """Nets of edges, and among them sound tables that no edges made."""
     for seed in range(2400):
         rng, context, _, parents, weights = a_net(seed, 40)
         if seed % 5 == 0:
             parents, weights = nets.sound_net(rng, len(parents))
+        yield rng, context, parents, weights
+
+
+@test(at_least=20_000, given="save" in PRESENT)
+def saved_and_read(t):
+    """A net is saved and read back into other tables, and its file, read, is saved as it was."""
+    for rng, context, parents, weights in sound_nets():
         n = len(parents)
         number, saved = PRESENT["save"].run(t, {"parents": parents, "weights": weights, "bytes": list(rng.randbytes(8 * n))}, context)
         t.same(number, 0, context)
@@ -41,10 +47,7 @@ def limits_of(rng, weights):
 
 @test(at_least=50_000, given="divide" in PRESENT)
 def divided(t):
-    for seed in range(2400):
-        rng, context, _, parents, weights = a_net(seed, 40)
-        if seed % 5 == 0:
-            parents, weights = nets.sound_net(rng, len(parents))
+    for rng, context, parents, weights in sound_nets():
         for limit in limits_of(rng, weights):
             given = inputs.accepted(rng, "divide", len(parents)) | {"parents": parents, "weights": weights, "limit": limit}
             k = rng.choice((1, 2, 3, 7, 1000))

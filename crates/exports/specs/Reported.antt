@@ -4,28 +4,28 @@ use Prim.Native.Nat.{ℕ}
 use Rattle.report.specs.Answer.{Reply, accepted, refused, answered}
 use Rattle.report.specs.Report.{Lent, ReportOutcome}
 
--- the bound and the volume
-pub record Figures : Type 0 where
+-- the cells for the bound and the volume
+pub record Cells : Type 0 where
   pub bound : ℕ
   pub volume : ℕ
 
-abbrev pub figures : ℕ → ℕ → Figures
-figures b v = record { bound = b; volume = v }
+abbrev pub cellsOf : ℕ → ℕ → Cells
+cellsOf b v = record { bound = b; volume = v }
 
 pub record Reported : Type 0 where
   pub answer : ℕ
-  pub cells : Figures
+  pub cells : Cells
   pub tables : Lent
 
 -- what a call ended with
-abbrev pub reported : ℕ → Figures → Lent → Reported
+abbrev pub reported : ℕ → Cells → Lent → Reported
 reported k c t = record { answer = k; cells = c; tables = t }
 
 -- the cells after a reply
-unfoldable pub told : Reply → Figures → Figures
-told (accepted b v) was = figures b v
+unfoldable pub told : Reply → Cells → Cells
+told (accepted b v) was = cellsOf b v
 told (refused k) was = was
 
 -- what it has to end with
-unfoldable pub handed : Figures → ReportOutcome → Reported
+unfoldable pub handed : Cells → ReportOutcome → Reported
 handed was o = reported (answered (o .reply)) (told (o .reply) was) (o .tables)

@@ -16,7 +16,7 @@ ghost use Rattle.linkfile.specs.LinkFile.{saveOutcome, readOutcome};
 ghost use Rattle.partition.specs.Divide.{tables as divisionOf, divideOutcome};
 ghost use Rattle.relabel.specs.Relabel.{tables, relabelOutcome};
 ghost use Rattle.report.specs.Report.{written, lent, reportOutcome};
-ghost use Rattle.exports.specs.Reported.{figures, reported, handed};
+ghost use Rattle.exports.specs.Reported.{cellsOf, reported, handed};
 
 fn code(answer: Answer) -> u32
     ensures { λ r. ⌜ r ≡ number answer ⌝ }
@@ -145,7 +145,7 @@ pub extern "C" fn niqastul_report(
     bound: &mut u64,
     volume: &mut u64,
 ) -> u32
-    ensures { λ r. ⌜ reported r (figures (now (bound .exit)) (now (volume .exit))) (lent (written (divisionOf (now (carried .exit)) (now (top .exit)) (now (block .exit)) (now («block_loads» .exit))) (now («edge_blocks» .exit)) (now (reach .exit)) (now («block_count» .exit))) (net (now («compared_parents» .exit)) (now («compared_weights» .exit))) (workOf (now (ends .exit)) (now (jump .exit)) (now (lower .exit)))) ≡ handed (figures (now (bound .entry)) (now (volume .entry))) (reportOutcome (net (now (parents .entry)) (now (weights .entry))) limit blocks (now (edges .entry)) (lent (written (divisionOf (now (carried .entry)) (now (top .entry)) (now (block .entry)) (now («block_loads» .entry))) (now («edge_blocks» .entry)) (now (reach .entry)) (now («block_count» .entry))) (net (now («compared_parents» .entry)) (now («compared_weights» .entry))) (workOf (now (ends .entry)) (now (jump .entry)) (now (lower .entry))))) ⌝ }
+    ensures { λ r. ⌜ reported r (cellsOf (now (bound .exit)) (now (volume .exit))) (lent (written (divisionOf (now (carried .exit)) (now (top .exit)) (now (block .exit)) (now («block_loads» .exit))) (now («edge_blocks» .exit)) (now (reach .exit)) (now («block_count» .exit))) (net (now («compared_parents» .exit)) (now («compared_weights» .exit))) (workOf (now (ends .exit)) (now (jump .exit)) (now (lower .exit)))) ≡ handed (cellsOf (now (bound .entry)) (now (volume .entry))) (reportOutcome (net (now (parents .entry)) (now (weights .entry))) limit blocks (now (edges .entry)) (lent (written (divisionOf (now (carried .entry)) (now (top .entry)) (now (block .entry)) (now («block_loads» .entry))) (now («edge_blocks» .entry)) (now (reach .entry)) (now («block_count» .entry))) (net (now («compared_parents» .entry)) (now («compared_weights» .entry))) (workOf (now (ends .entry)) (now (jump .entry)) (now (lower .entry))))) ⌝ }
 {
     match report::report(
         parents,

@@ -3,14 +3,13 @@
 use mathlib.Core.Path.{_≡_, refl, sym, ap, ap₂, subst, _∙_}
 use mathlib.Core.Bool.{false}
 use mathlib.Core.List.{List, [], _++_, zipWith}
-use Prim.Native.Nat.{ℕ, _+_, _^_, _≤_, _<_}
+use Prim.Native.Nat.{ℕ, _+_, _^_, _<_}
 use native.Mathlib.Omega.{arith}
 use lib.ListN.{length, getD, replicate}
-use Rattle.game.specs.Edge.{Edge, edges}
-use Rattle.game.specs.Game.{absent, forest}
-use Rattle.game.specs.Table.{sum}
+use Rattle.game.specs.Edge.{edges}
+use Rattle.game.specs.Game.{absent}
 use Rattle.game.specs.Tree.{links}
-use Rattle.game.specs.Net.{Net, net, weights, total, netOf}
+use Rattle.game.specs.Net.{net, weights, netOf}
 use Rattle.game.proofs.Forest.{forest-empty}
 use Rattle.game.proofs.Weights.{weights-empty}
 use Rattle.game.proofs.Proper.{Proper, proper-append}
@@ -18,18 +17,17 @@ use Rattle.game.proofs.Links.{links-proper}
 use Rattle.game.proofs.Sound.{true-sound}
 use Rattle.game.proofs.Tables.{sum-entry}
 use Rattle.refusal.specs.Refusal.{firstFault}
-use Rattle.refusal.proofs.Fault.{faultless-proper}
 use Rattle.bucket.specs.Ends.{tallied}
 use Rattle.bucket.specs.Filed.{Filed}
 use Rattle.bucket.proofs.Tallied.{tally-weights}
-use Rattle.growth.specs.Work.{Growing, growing, workOf, cleared}
+use Rattle.growth.specs.Work.{growing, workOf, cleared}
 use Rattle.forest.specs.Add.{grown}
 use Rattle.forest.specs.Join.{joined}
 use Rattle.growth.specs.Growth.{Regrows}
 use Rattle.growth.specs.Putting.{Extendable, Extends}
 use Rattle.growth.proofs.Regrown.{regrown}
 use Rattle.growth.proofs.Rooms.{same-room}
-use Rattle.forest.proofs.Accepted.{Whole, Room, Addable, Joinable}
+use Rattle.forest.proofs.Accepted.{Addable, Joinable}
 
 -- tables without parents and weights are the net of no edge
 pub start-ends : (p w : List ℕ) {p′ w′ : List ℕ} → length w ≡ length p → p′ ≡ replicate (length p) absent → w′ ≡ replicate (length w) 0 → net p′ w′ ≡ netOf (length p) []

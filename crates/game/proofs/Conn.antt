@@ -2,11 +2,10 @@
 -- The parent of x is the least y above x that is so joined to x at height y, whatever graph the walk is in; so two graphs that
 -- join the same vertices at the same heights have the same forest.
 -- Assumes nothing.
-use mathlib.Core.Path.{_≡_, refl, sym, subst}
 use mathlib.Core.Logic.{_⊎_, inl, inr, ⊎-elim}
-use mathlib.Core.List.{List, [], _∷_, _++_, List·Memᴰ, Memᴰ·append-left, Memᴰ·append-right, List·Memᴰ·append-cases}
-use Prim.Native.Nat.{ℕ, _≤_, _<_, max}
-use native.Mathlib.Nat.{le-trans, le-max-left, le-max-right, max-comm}
+use mathlib.Core.List.{List, _++_, List·Memᴰ, Memᴰ·append-left, Memᴰ·append-right, List·Memᴰ·append-cases}
+use Prim.Native.Nat.{ℕ, _≤_, max}
+use native.Mathlib.Nat.{le-trans, le-max-left, le-max-right}
 use native.Mathlib.Omega.{arith}
 use Rattle.game.specs.Edge.{Edge, _─_}
 

@@ -13,10 +13,10 @@ use lib.Seq.{getD-set-same, getD-set-other}
 use Rattle.game.specs.Edge.{Edge}
 use Rattle.game.specs.Game.{absent}
 use Rattle.game.specs.Tree.{links}
-use Rattle.game.proofs.Conn.{Conn, stay, conn-trans, conn-sym, conn-up, conn-step, conn-map, conn-from, conn-to, Linked, forth, back}
+use Rattle.game.proofs.Conn.{Conn, stay, conn-trans, conn-sym, conn-up, conn-step, conn-map, Linked, forth, back}
 use Rattle.game.proofs.Sound.{getD-default}
 use Rattle.game.proofs.Links.{link-set-old, link-set-new}
-use Rattle.growth.specs.Growth.{Root, Above, Known, known, passed, Child, Standing, Kept, Climbing, Climbed, Upward}
+use Rattle.growth.specs.Growth.{Root, Above, Known, known, passed, Child, Standing, Climbing, Climbed, Upward}
 
 -- the walker's own height: y is joined to wherever the walk from u stands
 edge-on : {n y u w : ℕ} {E : List Edge} {was p jump : List ℕ} → Climbing n E y u w was p jump → Conn E y w y

@@ -1,7 +1,7 @@
 -- From exchanges to a list put in: the laws that the loops follow.
 -- Assumes nothing.
 use mathlib.Core.Path.{_≡_, refl, sym, ap, subst, _∙_}
-use mathlib.Core.Logic.{_≢_, inl, inr}
+use mathlib.Core.Logic.{_≢_, inr}
 use mathlib.Core.List.{List, [], _∷_, _++_, append-assoc, append-nil}
 use Prim.Native.Nat.{ℕ, _+_, _-_, _≤_, _<_}
 use native.Mathlib.Omega.{arith}
@@ -10,12 +10,12 @@ use lib.Seq.{take-all}
 use Rattle.game.specs.Edge.{Edge, _─_, edges}
 use Rattle.game.specs.Game.{absent, forest}
 use Rattle.game.specs.Tree.{links}
-use Rattle.game.proofs.Conn.{Within, within-refl, within-trans, within-both}
+use Rattle.game.proofs.Conn.{within-refl, within-trans, within-both}
 use Rattle.game.proofs.Edges.{edges-drop, edges-end, edges-length}
 use Rattle.game.proofs.Forest.{forest-same, forest-unique}
 use Rattle.game.proofs.Sound.{Sound, sound-true, true-sound, sound-parent, sound-set, getD-default}
 use Rattle.game.proofs.Within.{within-linked}
-use Rattle.game.proofs.Order.{same-linked, flip, nil, same-refl}
+use Rattle.game.proofs.Order.{same-linked, flip, nil}
 use Rattle.refusal.specs.Refusal.{fault, firstFault}
 use Rattle.refusal.proofs.Fault.{faultless, first-fault-on, faultless-proper}
 use Rattle.game.proofs.Proper.{Proper, proper-append}

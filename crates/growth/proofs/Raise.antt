@@ -1,18 +1,18 @@
 -- From climbs to the forest: a bucket is gathered climb by climb, the vertices are raised bucket by bucket, and the table that
 -- stands at the end is the elimination forest, because its links and the graph join the same vertices at the same heights.
 -- Assumes nothing.
-use mathlib.Core.Path.{_≡_, refl, sym, ap, subst, _∙_}
+use mathlib.Core.Path.{_≡_, refl, sym, subst, _∙_}
 use mathlib.Core.Logic.{_≢_, _⊎_, inl, inr, ⊎-elim, by-cases}
 use mathlib.Core.List.{List, [], _∷_, List·Memᴰ}
 use Prim.Native.Nat.{ℕ, _+_, _≤_, _<_, zero-le}
-use native.Mathlib.Nat.{le-refl, le-of-lt, le-trans}
+use native.Mathlib.Nat.{le-refl, le-of-lt}
 use native.Mathlib.Omega.{arith}
-use native.Mathlib.Decide.{ℕ-discrete, decLt}
+use native.Mathlib.Decide.{ℕ-discrete}
 use lib.ListN.{length, getD, replicate, length-replicate, getD-replicate}
 use Rattle.game.specs.Edge.{Edge, _─_}
 use Rattle.game.specs.Game.{absent, forest}
 use Rattle.game.specs.Tree.{links}
-use Rattle.game.proofs.Conn.{Conn, Linked, forth, back, Within, conn-map, conn-step, conn-sym, linked-sym}
+use Rattle.game.proofs.Conn.{Conn, Linked, forth, back, Within, conn-map, conn-step}
 use Rattle.game.proofs.Proper.{Proper}
 use Rattle.game.proofs.Within.{within-up, conn-below}
 use Rattle.game.proofs.Sound.{Sound}
@@ -23,7 +23,7 @@ use Rattle.game.specs.Table.{count, one-if}
 use Rattle.game.specs.Edge.{upper}
 use Rattle.bucket.specs.Ends.{below}
 use Rattle.bucket.specs.Filed.{Filed}
-use Rattle.growth.specs.Growth.{Root, Above, Known, known, passed, Child, Standing, Kept, Climbed, Climbs, Offers, Gathered, Gathers, Raised}
+use Rattle.growth.specs.Growth.{Above, Known, known, passed, Child, Standing, Kept, Climbed, Climbs, Offers, Gathered, Gathers, Raised}
 
 -- walks in the forest stay walks while parents are kept
 kept-conn : {was p : List ℕ} → length was ≡ length p → Kept was p → {t a b : ℕ} → Conn (links was) t a b → Conn (links p) t a b

@@ -1,12 +1,11 @@
 -- Which lengths of the work tables are refused, test by test, and what is known where none is.
 -- Assumes nothing.
-use mathlib.Core.Path.{_≡_, refl, sym, ap, _∙_}
+use mathlib.Core.Path.{_≡_, refl}
 use mathlib.Core.Bool.{Bool, true, false, not, _||_, true≢false}
 use mathlib.Core.List.{List}
 use Prim.Native.Nat.{ℕ}
 use lib.Dec.{eqb}
 use lib.ListN.{length, replicate}
-use borrow.Author.Tests.{eqb-true, not-false}
 use Rattle.refusal.specs.Refusal.{wrongLength}
 use Rattle.refusal.proofs.First.{right-length, wrong-length, length-right}
 use Rattle.growth.specs.Work.{Work, workOf, badWork, zeros, cleared}

@@ -3,9 +3,9 @@
 -- Assumes nothing.
 use mathlib.Core.Path.{_≡_, refl, sym, ap, ap₂, subst, _∙_}
 use mathlib.Core.Bool.{Bool, true, false}
-use mathlib.Core.List.{List, [], _∷_, _++_}
+use mathlib.Core.List.{List, [], _++_}
 use mathlib.Core.Option.{Option, none, some}
-use Prim.Native.Nat.{ℕ, zero, suc, _≤_, _<_, _^_, _*_}
+use Prim.Native.Nat.{ℕ, zero, suc, _≤_, _<_}
 use native.Mathlib.Omega.{arith}
 use lib.ListN.{length}
 use Rattle.game.specs.Edge.{Edge, edges}
@@ -16,7 +16,7 @@ use Rattle.game.proofs.Weights.{weights-length}
 use Rattle.game.proofs.Proper.{Proper, proper-nil, proper-append}
 use Rattle.refusal.specs.Limits.{maxVertices}
 use Rattle.refusal.specs.Refusal.{unless}
-use Rattle.refusal.specs.Outcome.{Outcome, decided}
+use Rattle.refusal.specs.Outcome.{decided}
 use Rattle.refusal.proofs.First.{unless-part}
 use Rattle.refusal.proofs.Fault.{faultless-proper}
 use Rattle.net.specs.Damage.{damaged}
@@ -28,7 +28,7 @@ use Rattle.forest.proofs.Accepted.{startable, addable, joinable}
 use Rattle.forest.proofs.Laws.{grown-net, joined-net}
 use Rattle.linkfile.specs.LinkFile.{linkFile, fileNet, saveRefusal, saveOutcome, readRefusal, readOutcome}
 use Rattle.linkfile.proofs.Accepted.{save-accepted}
-use Rattle.linkfile.proofs.RoundTrip.{link-file-length, file-net, undamaged-parents, undamaged-weights}
+use Rattle.linkfile.proofs.RoundTrip.{file-net, undamaged-parents, undamaged-weights}
 use Rattle.relabel.specs.Relabel.{relabelOutcome}
 use Rattle.partition.specs.Divide.{divideOutcome}
 use Rattle.report.specs.Answer.{answered}

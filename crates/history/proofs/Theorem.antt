@@ -1,23 +1,20 @@
 -- No history of calls can bend the result: the theorem, for any world at first and any list of calls.
 -- Assumes nothing.
-use mathlib.Core.Path.{_≡_, refl, sym, ap, subst, _∙_}
+use mathlib.Core.Path.{_≡_, sym, ap, subst, _∙_}
 use mathlib.Core.List.{List, [], _∷_}
-use mathlib.Core.Option.{none, some}
 use Prim.Native.Nat.{ℕ, _*_}
-use native.Mathlib.Omega.{arith}
 use lib.ListN.{length}
 use Rattle.game.specs.Edge.{Edge, edges}
 use Rattle.game.specs.Net.{Net, netOf}
-use Rattle.game.proofs.Order.{Same, net-order}
-use Rattle.linkfile.specs.LinkFile.{linkFile}
+use Rattle.game.proofs.Order.{net-order}
 use Rattle.linkfile.proofs.RoundTrip.{link-file-length}
 use Rattle.report.specs.Report.{Lent, reportOutcome}
 use Rattle.cost.proofs.VolumeBound.{volume-bound}
 use Rattle.report.proofs.Own.{own-not-23, accepted-figures}
-use Rattle.history.specs.World.{World, Call, step}
-use Rattle.history.specs.Book.{Book, entry, note, blank}
+use Rattle.history.specs.World.{World, Call}
+use Rattle.history.specs.Book.{Book, blank}
 use Rattle.history.specs.History.{worldAfter, bookAfter, Reports, NetHolds, FileHolds, Holds}
-use Rattle.history.proofs.Steps.{NetOf, FileOf, NetKept, FileKept, Kept, nothing, net-lengths, parents-length, step-keeps}
+use Rattle.history.proofs.Steps.{NetOf, FileOf, Kept, nothing, net-lengths, parents-length, step-keeps}
 
 -- a report that is lent the list of a net
 reports : (net : Net) (ts : List Edge) (B k : ℕ) (xs : List ℕ) (tables : Lent) → net ≡ netOf (length (net .parents)) ts → edges xs ≡ ts → Reports net ts B k (reportOutcome net B k xs tables .reply)

@@ -1,16 +1,14 @@
 -- What an accepted save or reading shows of the tables that it was lent.
 -- Assumes nothing.
 use mathlib.Core.Path.{_≡_, refl, sym, _∙_}
-use mathlib.Core.Bool.{Bool, true, false, not, _||_, true≢false, false≢true}
+use mathlib.Core.Bool.{Bool, true, false, not, false≢true}
 use mathlib.Core.List.{List, [], _∷_}
-use Prim.Native.Nat.{ℕ, zero, suc, _*_, _≤_, _<_}
-use native.Mathlib.Omega.{arith}
-use lib.Dec.{eqb, ltb}
+use Prim.Native.Nat.{ℕ, zero, suc, _*_}
+use lib.Dec.{ltb}
 use lib.ListN.{length}
-use borrow.Author.Tests.{eqb-true, eqb-false, ltb-false, not-false}
 use Rattle.game.specs.Tree.{sound}
 use Rattle.game.specs.Net.{Net, total}
-use Rattle.refusal.specs.Limits.{maxVertices, maxTotal}
+use Rattle.refusal.specs.Limits.{maxTotal}
 use Rattle.refusal.specs.Refusal.{given, first, badCount, wrongLength}
 use Rattle.game.proofs.Bools.{or-neither}
 use Rattle.refusal.proofs.First.{first-none, first-last, given-none, length-right}

@@ -2,7 +2,7 @@
 -- Assumes nothing.
 use mathlib.Core.Path.{_≡_, refl, sym, _∙_}
 use mathlib.Core.Bool.{Bool, true, false, not, _&&_, _||_, and-assoc, and-true}
-use mathlib.Core.List.{List, [], _∷_}
+use mathlib.Core.List.{List}
 use Prim.Native.Nat.{ℕ, suc, _+_, _≤_, _<_}
 use native.Mathlib.Omega.{arith}
 use native.Mathlib.Numerals.{add-one}
@@ -11,10 +11,9 @@ use lib.ListN.{length, getD, drop, drop-of-length-le}
 use lib.Seq.{drop-cons}
 use borrow.Author.Tests.{ltb-false}
 use Rattle.game.specs.Tree.{sound, soundFrom, soundParent}
-use Rattle.game.specs.Net.{Net, total}
 use Rattle.game.proofs.Sound.{Sound, sound-true}
 use Rattle.refusal.specs.Limits.{maxTotal}
-use Rattle.net.specs.Damage.{damagedBy, damaged}
+use Rattle.net.specs.Damage.{damagedBy}
 
 -- The scan at i: what was found of the entries before it, and those that are left, decide.
 pub record Scanned (p : List ℕ) (i : ℕ) (found : Bool) : Type 0 where

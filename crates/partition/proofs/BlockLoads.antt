@@ -13,7 +13,7 @@ use lib.Dec.{eqb, ltb}
 use lib.ListN.{length, getD, replicate, length-set, length-replicate, getD-replicate}
 use lib.Seq.{getD-set-same, getD-set-other}
 use borrow.Author.Tests.{eq-eqb, ne-eqb, ltb-true, ltb-false}
-use Rattle.game.specs.Table.{tabulateFrom, tabulate, sum}
+use Rattle.game.specs.Table.{tabulateFrom, sum}
 use Rattle.game.proofs.Tables.{sum-zeros, sum-set}
 use Rattle.partition.specs.Cut.{best}
 use Rattle.partition.specs.Pack.{lightest, put, loadsBelow, blockOf}

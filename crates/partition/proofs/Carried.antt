@@ -18,7 +18,7 @@ use Rattle.game.specs.Table.{tabulate, member}
 use Rattle.game.specs.Game.{absent}
 use Rattle.game.proofs.Sound.{Sound}
 use Rattle.game.proofs.Tables.{member-in, in-member}
-use Rattle.partition.specs.Cut.{such, childrenBelow, children, carries, carriedBelow, carriedUnder, kept, carried, cutBy, cut}
+use Rattle.partition.specs.Cut.{such, childrenBelow, children, carries, carriedBelow, carriedUnder, kept, carried, cut}
 use Rattle.partition.specs.Work.{Rising}
 use Rattle.partition.proofs.Lists.{such-in, in-such, rising-such, rising-ext, stretch-rising, stretch-in, in-stretch}
 use Rattle.partition.proofs.Trimming.{carries-agree, trim-in, trim-rising, trim-agree, trim-fits, trim-keeps}

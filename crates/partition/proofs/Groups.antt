@@ -11,11 +11,11 @@ use native.Mathlib.Omega.{arith}
 use lib.Dec.{eqb}
 use lib.ListN.{length, getD, List·getD-eq-default}
 use borrow.Author.Tests.{lt-ltb, le-ltb, eq-eqb, ne-eqb}
-use Rattle.game.specs.Table.{tabulate, sum}
+use Rattle.game.specs.Table.{sum}
 use Rattle.game.specs.Game.{absent}
 use Rattle.game.specs.Tree.{climb, ancestors}
 use Rattle.game.proofs.Sound.{Sound}
-use Rattle.partition.specs.Cut.{childrenBelow, children, carries, climbTo, top, isTop, group, groupWeight}
+use Rattle.partition.specs.Cut.{children, carries, climbTo, top, isTop, groupWeight}
 use Rattle.partition.proofs.Lists.{test-cases, stretch, stretch-in, sum-agree, sum-nought}
 use Rattle.partition.proofs.Sums.{only, total, total-add, total-such, total-swap, total-here, total-elsewhere, total-table}
 use Rattle.partition.proofs.Carried.{entry, Carrying, uncutUnder}

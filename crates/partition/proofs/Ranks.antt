@@ -13,7 +13,7 @@ use lib.Dec.{eqb, ltb}
 use lib.ListN.{length, getD, drop, set, replicate, length-set, length-replicate, getD-replicate}
 use lib.Seq.{getD-set-same, getD-set-other, ext-getD, drop-set-lt}
 use borrow.Author.Tests.{eqb-true, eq-eqb, ne-eqb, lt-ltb, le-ltb}
-use Rattle.game.specs.Table.{tabulate, sum, member}
+use Rattle.game.specs.Table.{sum, member}
 use Rattle.game.specs.Game.{absent}
 use Rattle.game.proofs.Sound.{Sound, sound-true, getD-default}
 use Rattle.game.proofs.Tables.{member-in, in-member, sum-drop, sum-zeros, sum-drop-set, sum-drop-entry}

@@ -8,17 +8,16 @@ use Prim.Native.Nat.{ℕ, zero, suc, _+_, _≤_, _<_}
 use native.Mathlib.Numerals.{add-one}
 use native.Mathlib.Decide.{decLe}
 use native.Mathlib.Omega.{arith}
-use lib.Dec.{eqb, ltb}
+use lib.Dec.{ltb}
 use lib.ListN.{length, getD, drop, drop-of-length-le}
 use lib.Seq.{drop-cons}
-use borrow.Author.Tests.{eqb-true, not-false, lt-ltb, le-ltb, le-leb, lt-leb, ltb-false}
+use borrow.Author.Tests.{lt-ltb, le-ltb, le-leb, lt-leb, ltb-false}
 use Rattle.game.specs.Table.{sum}
-use Rattle.refusal.specs.Limits.{maxVertices}
-use Rattle.refusal.specs.Refusal.{given, first, badCount, wrongLength}
+use Rattle.refusal.specs.Refusal.{given, badCount, wrongLength}
 use Rattle.refusal.specs.Outcome.{ended}
 use Rattle.refusal.proofs.Ends.{ends-refused, ends-accepted}
 use Rattle.refusal.proofs.First.{pass, stop, first-none, given-none, length-right, good-count}
-use Rattle.game.specs.Net.{Net, total, net}
+use Rattle.game.specs.Net.{Net, net}
 use Rattle.net.specs.Damage.{damagedBy, damaged}
 use Rattle.net.proofs.Scan.{undamaged}
 use Rattle.game.proofs.Bools.{or-neither}

@@ -10,10 +10,9 @@ use native.Mathlib.Nat.{zero-add, add-zero, suc-add, add-suc, le-refl}
 use native.Mathlib.Decide.{ℕ-discrete, le-ind}
 use native.Mathlib.Omega.{arith}
 use lib.Dec.{eqb}
-use lib.ListN.{length, getD, drop, set}
+use lib.ListN.{length, getD}
 use borrow.Author.Tests.{eq-eqb, ne-eqb}
 use Rattle.game.specs.Table.{tabulateFrom, sum}
-use Rattle.game.proofs.Tables.{sum-entry}
 use Rattle.partition.specs.Cut.{such}
 use Rattle.partition.proofs.Lists.{test-cases, such-take, such-leave, stretch, stretch-in, sum-nought}
 

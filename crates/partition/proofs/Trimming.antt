@@ -10,7 +10,6 @@ use native.Mathlib.Omega.{arith}
 use lib.Dec.{ltb}
 use lib.ListN.{length}
 use borrow.Author.Tests.{lt-ltb, le-ltb, ltb-false}
-use Rattle.game.specs.Table.{sum}
 use Rattle.partition.specs.Cut.{carries, heaviest, without, trim}
 use Rattle.partition.specs.Work.{Rising, done, more}
 use Rattle.partition.proofs.Lists.{rising-without, without-in, in-without, without-shorter, sum-agree, sum-nought}

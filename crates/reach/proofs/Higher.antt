@@ -1,8 +1,8 @@
 -- The reach of x is the number of higher neighbours that the elimination game gives x: of the vertices above x, those with an edge into
 -- the subtree of x are the set S at the moment when x is eliminated.
 -- Assumes nothing.
-use mathlib.Core.Path.{_≡_, refl, sym, ap, _∙_}
-use mathlib.Core.Logic.{_≢_, _⊎_, inl, inr, ⊎-elim, by-cases}
+use mathlib.Core.Path.{_≡_, refl, ap, _∙_}
+use mathlib.Core.Logic.{_≢_, _⊎_, ⊎-elim, by-cases}
 use mathlib.Core.Bool.{Bool, true, false, not, _&&_, _||_, cond}
 use mathlib.Core.List.{List, [], _∷_, List·Memᴰ, List·Memᴰ·head, List·Memᴰ·tail}
 use Prim.Native.Nat.{ℕ, zero, suc, _+_, _≤_, _<_}
@@ -23,7 +23,7 @@ use Rattle.game.proofs.Conn.{Linked, forth, back, Conn, stay, go, conn-to, conn
 use Rattle.game.proofs.Proper.{Proper}
 use Rattle.game.proofs.Sound.{Sound}
 use Rattle.game.proofs.Filled.{higher-linked, linked-higher, clique-in, Low, once, more, low-filled}
-use Rattle.game.proofs.Climbs.{Climbs, climbs-conn, conn-climbs}
+use Rattle.game.proofs.Climbs.{climbs-conn, conn-climbs}
 use Rattle.game.proofs.Forest.{forest-length, forest-sound, forest-within, within-forest}
 use Rattle.game.proofs.Ancestors.{under-climbs, climbs-under, forest-ancestor}
 use Rattle.reach.proofs.Counts.{bool-iff, entry-some, some-entry-in, count-ext, Rising, rising-above, count-more}

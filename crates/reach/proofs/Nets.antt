@@ -16,14 +16,13 @@ use Rattle.game.specs.Tree.{ancestors}
 use Rattle.game.specs.Net.{weights}
 use Rattle.game.proofs.Conn.{Linked}
 use Rattle.game.proofs.Tables.{member-in}
-use Rattle.game.proofs.Proper.{Proper, proper-nil, proper-cons, linked-ends, linked-tail, same, turned, edge-left, edge-right}
+use Rattle.game.proofs.Proper.{Proper, linked-ends, linked-tail, same, turned, edge-left, edge-right}
 use Rattle.game.proofs.Sound.{Sound, sound-parent, getD-default}
 use Rattle.game.proofs.Links.{link-of}
 use Rattle.game.proofs.Climbs.{Climbs, top, up}
 use Rattle.game.proofs.Forest.{forest-sound}
 use Rattle.game.proofs.Ancestors.{ancestor-above, edge-ends}
 use Rattle.game.proofs.Weights.{weights-length, weights-entry, weights-sum}
-use Rattle.refusal.specs.Refusal.{fault, firstFault}
 use Rattle.refusal.proofs.Fault.{faultless-proper}
 use Rattle.reach.specs.Balance.{Summable}
 use Rattle.reach.specs.Jumps.{Jumps}

@@ -2,8 +2,7 @@
 -- Assumes nothing.
 use mathlib.Core.Path.{_≡_, sym, ap₂, _∙_}
 use Prim.Native.Nat.{ℕ}
-use Rattle.refusal.specs.Refusal.{unless}
-use Rattle.refusal.specs.Outcome.{Outcome, ended, decided}
+use Rattle.refusal.specs.Outcome.{ended, decided}
 use Rattle.refusal.proofs.First.{unless-refused, unless-accepted}
 
 module _ {A : Type 0} (k : ℕ) (was new : A) where

@@ -1,20 +1,17 @@
 -- The tests of a call in document 01's order: each is the answer if it applies and none before it did; and what is known where
 -- none applies.
 -- Assumes nothing.
-use mathlib.Core.Path.{_≡_, sym, ap, _∙_}
-use mathlib.Core.Bool.{Bool, true, false, not}
+use mathlib.Core.Path.{_≡_, sym, _∙_}
+use mathlib.Core.Bool.{true, false}
 use mathlib.Core.List.{List, [], _∷_}
-use Prim.Native.Nat.{ℕ, suc, _%_, _≤_}
-use lib.Dec.{eqb, ltb}
+use Prim.Native.Nat.{ℕ, _%_, _≤_}
 use lib.ListN.{length}
-use borrow.Author.Tests.{eqb-true, ltb-false, eq-eqb, ne-eqb, not-false}
 use Rattle.game.specs.Edge.{edges}
 use Rattle.refusal.specs.Limits.{maxVertices}
 use Rattle.refusal.specs.Refusal.{given, first, badCount, wrongLength, odd, firstFault}
 use Rattle.refusal.proofs.First.{pass, stop, first-none, first-last, given-none, right-length, wrong-length, length-right, even-list, odd-list, list-even, good-count}
 use Rattle.relabel.specs.Relabel.{badOrder, relabelRefusal}
 use Rattle.relabel.specs.LookUp.{Below}
-use Rattle.game.proofs.Bools.{or-neither}
 use Rattle.relabel.proofs.Faultless.{faultless-below}
 
 -- the answer at each test, by what was found before it

@@ -2,7 +2,7 @@
 -- Assumes nothing.
 use mathlib.Core.Path.{_≡_, refl, sym, ap, subst, _∙_}
 use mathlib.Core.Bool.{not}
-use mathlib.Core.List.{List, [], _∷_}
+use mathlib.Core.List.{List}
 use Prim.Native.Nat.{ℕ, zero, suc, _<_}
 use native.Mathlib.Omega.{arith}
 use lib.ListN.{length}
@@ -11,7 +11,7 @@ use Rattle.game.specs.Edge.{edges}
 use Rattle.game.specs.Net.{Net, netOf}
 use Rattle.refusal.proofs.First.{first-none, given-none, unless-accepted}
 use Rattle.refusal.proofs.Fault.{faultless-proper}
-use Rattle.partition.specs.Divide.{Tables, divided}
+use Rattle.partition.specs.Divide.{divided}
 use Rattle.partition.proofs.Refused.{accepted as divides-accepted}
 use Rattle.cost.specs.Laid.{Together}
 use Rattle.cost.proofs.Laid.{blocks-laid-together, block-edges}

@@ -1,4 +1,3 @@
-use mathlib.Core.Path.{refl}
 use Rattle.refusal.specs.Answer.{number}
 use borrow.Author.Needs.{needs}
 use Rattle.exports.proofs.code.Statement.{statement}

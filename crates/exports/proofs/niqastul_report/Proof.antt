@@ -1,14 +1,7 @@
-use native.Mathlib.Omega.{arith}
-use mathlib.Core.Path.{_≡_}
-use mathlib.Core.Logic.{_⊎_, inl, inr, ⊎-elim}
-use Prim.Native.Nat.{ℕ, _+_, _-_, _<_, _≤_}
-use lib.ListN.{length, getD, length-set}
+use Prim.Native.Nat.{_-_}
 use borrow.Author.Needs.{needs}
 use Rattle.exports.proofs.niqastul_report.Statement.{statement}
 use Rattle.exports.proofs.niqastul_report.Tie as tie
-use Rattle.exports.proofs.niqastul_report.Reads as reads
-use Rattle.exports.proofs.niqastul_report.Lts as lts
-use Rattle.report.proofs.report.Reads as report-reads
 use Rattle.exports.proofs.Handed.{handed-accepted, handed-refused}
 
 -- src/lib.rt:150:11

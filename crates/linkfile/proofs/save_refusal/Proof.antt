@@ -1,7 +1,6 @@
 use mathlib.Core.Path.{sym, ap, _∙_}
 use borrow.Author.Needs.{needs}
 use borrow.Author.Tests.{eq-eqb, ne-eqb}
-use Rattle.game.specs.Net.{total}
 use Rattle.refusal.specs.Refusal.{first, given, wrongLength}
 use Rattle.net.specs.Damage.{damagedBy, damaged}
 use Rattle.linkfile.specs.LinkFile.{saveRefusal}

@@ -1,15 +1,10 @@
-use native.Mathlib.Omega.{arith}
-use mathlib.Core.Path.{_≡_, refl, sym, _∙_}
-use Prim.Native.Nat.{_-_, _≤_}
+use mathlib.Core.Path.{_≡_}
+use Prim.Native.Nat.{_-_}
 use lib.ListN.{length}
 use Rattle.net.proofs.Scan.{Scanned, scan-start, scan-on, scan-end}
 use borrow.Author.Needs.{needs}
 use Rattle.net.proofs.is_sound.Statement.{statement}
 use Rattle.net.proofs.is_sound.Tie as tie
-use Rattle.net.proofs.is_sound.Reads as reads
-use Rattle.net.proofs.is_sound.Lts as lts
-use Rattle.net.proofs.is_parent.Reads as is-parent-reads
-use Rattle.net.proofs.narrow.Reads as narrow-reads
 
 abbrev Inv-loop : tie.InvT-loop
 Inv-loop parents n sound₀ i₀ sound i = (n ≡ length parents) × Scanned parents i sound

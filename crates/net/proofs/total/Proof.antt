@@ -7,9 +7,6 @@ use Rattle.game.proofs.Tables.{sum-drop, sum-end}
 use borrow.Author.Needs.{needs}
 use Rattle.net.proofs.total.Statement.{statement}
 use Rattle.net.proofs.total.Tie as tie
-use Rattle.net.proofs.total.Reads as reads
-use Rattle.net.proofs.total.Lts as lts
-use Rattle.net.proofs.wide.Reads as wide-reads
 
 abbrev Inv-loop : tie.InvT-loop
 Inv-loop weights sum₀ i₀ sum i =

@@ -1,5 +1,4 @@
 use borrow.Author.Tests.{eq-eqb, ne-eqb}
-use Rattle.refusal.specs.Limits.{maxVertices}
 use Rattle.refusal.specs.Refusal.{badCount}
 use Rattle.refusal.proofs.bad_count.Statement.{statement}
 use Rattle.refusal.proofs.bad_count.Tie as tie

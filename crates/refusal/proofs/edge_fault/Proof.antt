@@ -4,9 +4,6 @@ use mathlib.Core.Path.{sym}
 use Rattle.refusal.proofs.Fault.{fault-left, fault-right, fault-same, fault-none}
 use Rattle.refusal.proofs.edge_fault.Statement.{statement}
 use Rattle.refusal.proofs.edge_fault.Tie as tie
-use Rattle.refusal.proofs.edge_fault.Reads as reads
-use Rattle.refusal.proofs.edge_fault.Lts as lts
-use Rattle.refusal.proofs.wide.Reads as wide-reads
 
 -- src/lib.rt:52:13
 wide-requires : tie.Need-wide-requires

@@ -1,7 +1,5 @@
-use native.Mathlib.Omega.{arith}
 use mathlib.Core.Path.{_≡_, sym, _∙_}
-use mathlib.Core.Logic.{_⊎_, inl, inr, ⊎-elim}
-use Prim.Native.Nat.{ℕ, _+_, _-_, _<_, _≤_}
+use Prim.Native.Nat.{_-_, _≤_}
 use lib.ListN.{length, drop}
 use borrow.Author.Needs.{needs}
 use Rattle.game.specs.Edge.{edges as edgesOf}
@@ -9,9 +7,6 @@ use Rattle.refusal.specs.Refusal.{firstFault}
 use Rattle.refusal.proofs.Fault.{scan-stop, scan-on, scan-end}
 use Rattle.refusal.proofs.first_fault.Statement.{statement}
 use Rattle.refusal.proofs.first_fault.Tie as tie
-use Rattle.refusal.proofs.first_fault.Reads as reads
-use Rattle.refusal.proofs.first_fault.Lts as lts
-use Rattle.refusal.proofs.edge_fault.Reads as edge-fault-reads
 
 abbrev Inv-loop : tie.InvT-loop
 Inv-loop n edges i₀ i = (i ≤ length edges) × (firstFault n (edgesOf (drop i edges)) ≡ firstFault n (edgesOf edges))

@@ -8,9 +8,6 @@ use lib.ListN.{length, drop}
 use borrow.Author.Needs.{needs}
 use Rattle.refusal.proofs.has_fault.Statement.{statement}
 use Rattle.refusal.proofs.has_fault.Tie as tie
-use Rattle.refusal.proofs.has_fault.Reads as reads
-use Rattle.refusal.proofs.has_fault.Lts as lts
-use Rattle.refusal.proofs.is_faulty.Reads as is-faulty-reads
 
 abbrev Inv-loop : tie.InvT-loop
 Inv-loop n edges found₀ i₀ found i = (i ≤ length edges) × ((found || someFault n (edgesOf (drop i edges))) ≡ someFault n (edgesOf edges))

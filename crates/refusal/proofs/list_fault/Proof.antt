@@ -4,10 +4,6 @@ use Rattle.refusal.proofs.Sweep.{none-first}
 use borrow.Author.Needs.{needs}
 use Rattle.refusal.proofs.list_fault.Statement.{statement}
 use Rattle.refusal.proofs.list_fault.Tie as tie
-use Rattle.refusal.proofs.list_fault.Reads as reads
-use Rattle.refusal.proofs.list_fault.Lts as lts
-use Rattle.refusal.proofs.first_fault.Reads as first-fault-reads
-use Rattle.refusal.proofs.has_fault.Reads as has-fault-reads
 
 cast-has-fault : tie.Need-cast-has-fault
 cast-has-fault c = search needs

@@ -1,4 +1,3 @@
-use native.Mathlib.Omega.{arith}
 use mathlib.Core.Path.{refl, sym, _∙_}
 use Rattle.refusal.specs.Answer.{number}
 use Rattle.refusal.proofs.Ends.{ends-refused, ends-accepted}
@@ -8,10 +7,6 @@ use Rattle.forest.proofs.Outcomes.{add-fits, add-faultless, add-extenda
 use borrow.Author.Needs.{needs}
 use Rattle.forest.proofs.adding.add.Statement.{statement}
 use Rattle.forest.proofs.adding.add.Tie as tie
-use Rattle.forest.proofs.adding.add.Reads as reads
-use Rattle.forest.proofs.adding.add.Lts as lts
-use Rattle.bucket.proofs.tally.Reads as tally-reads
-use Rattle.forest.proofs.adding.add_refusal.Reads as add-refusal-reads
 
 add-refusal-requires : tie.Need-add-refusal-requires
 add-refusal-requires c κs = search needs

@@ -1,5 +1,5 @@
 use native.Mathlib.Omega.{arith}
-use mathlib.Core.Path.{_≡_, refl, sym, ap, _∙_}
+use mathlib.Core.Path.{sym, _∙_}
 use Rattle.refusal.proofs.First.{pass, stop, first-end, first-pass, first-stop, right-length, wrong-length, even-list, odd-list, good-count}
 use Rattle.game.proofs.Edges.{edges-length}
 use Rattle.net.proofs.Scan.{undamaged}
@@ -8,12 +8,6 @@ use Rattle.forest.proofs.Tests.{work-length, damage, over, within}
 use borrow.Author.Needs.{needs}
 use Rattle.forest.proofs.adding.add_refusal.Statement.{statement}
 use Rattle.forest.proofs.adding.add_refusal.Tie as tie
-use Rattle.forest.proofs.adding.add_refusal.Reads as reads
-use Rattle.forest.proofs.adding.add_refusal.Lts as lts
-use Rattle.net.proofs.Forest.is_damaged.Reads as is-damaged-reads
-use Rattle.net.proofs.Forest.of.Reads as of-reads
-use Rattle.refusal.proofs.bad_count.Reads as bad-count-reads
-use Rattle.refusal.proofs.list_fault.Reads as list-fault-reads
 
 bad-count-requires : tie.Need-bad-count-requires
 bad-count-requires c κs = search needs

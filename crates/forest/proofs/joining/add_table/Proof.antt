@@ -8,8 +8,6 @@ use Rattle.forest.proofs.Summed.{Summed, sum-start, sum-step, sum-all}
 use borrow.Author.Needs.{needs}
 use Rattle.forest.proofs.joining.add_table.Statement.{statement}
 use Rattle.forest.proofs.joining.add_table.Tie as tie
-use Rattle.forest.proofs.joining.add_table.Reads as reads
-use Rattle.forest.proofs.joining.add_table.Lts as lts
 
 abbrev Inv-loop : tie.InvT-loop
 Inv-loop table₀ other i₀ table i = Summed table₀ other table i

@@ -10,11 +10,6 @@ use Rattle.growth.proofs.Regrown.{filed-roomy}
 use borrow.Author.Needs.{needs}
 use Rattle.forest.proofs.joining.join.Statement.{statement}
 use Rattle.forest.proofs.joining.join.Tie as tie
-use Rattle.forest.proofs.joining.join.Reads as reads
-use Rattle.forest.proofs.joining.join.Lts as lts
-use Rattle.bucket.proofs.file_links.Reads as file-links-reads
-use Rattle.forest.proofs.joining.add_table.Reads as add-table-reads
-use Rattle.forest.proofs.joining.join_refusal.Reads as join-refusal-reads
 
 join-refusal-requires : tie.Need-join-refusal-requires
 join-refusal-requires c κs = search needs

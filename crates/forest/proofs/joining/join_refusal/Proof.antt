@@ -7,11 +7,6 @@ use Rattle.forest.proofs.Tests.{damage, over, within}
 use borrow.Author.Needs.{needs}
 use Rattle.forest.proofs.joining.join_refusal.Statement.{statement}
 use Rattle.forest.proofs.joining.join_refusal.Tie as tie
-use Rattle.forest.proofs.joining.join_refusal.Reads as reads
-use Rattle.forest.proofs.joining.join_refusal.Lts as lts
-use Rattle.net.proofs.Forest.is_damaged.Reads as is-damaged-reads
-use Rattle.net.proofs.Forest.of.Reads as of-reads
-use Rattle.refusal.proofs.bad_count.Reads as bad-count-reads
 
 bad-count-requires : tie.Need-bad-count-requires
 bad-count-requires c κs = search needs

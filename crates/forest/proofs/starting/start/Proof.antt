@@ -1,4 +1,3 @@
-use native.Mathlib.Omega.{arith}
 use mathlib.Core.Path.{refl, sym, _∙_}
 use Rattle.refusal.specs.Answer.{number}
 use Rattle.refusal.proofs.Ends.{ends-refused, ends-accepted}
@@ -8,10 +7,6 @@ use Rattle.forest.proofs.Outcomes.{start-ends}
 use borrow.Author.Needs.{needs}
 use Rattle.forest.proofs.starting.start.Statement.{statement}
 use Rattle.forest.proofs.starting.start.Tie as tie
-use Rattle.forest.proofs.starting.start.Reads as reads
-use Rattle.forest.proofs.starting.start.Lts as lts
-use Rattle.table.proofs.fill.Reads as fill-reads
-use Rattle.forest.proofs.starting.start_refusal.Reads as start-refusal-reads
 
 start-refusal-requires : tie.Need-start-refusal-requires
 start-refusal-requires c κs = search needs

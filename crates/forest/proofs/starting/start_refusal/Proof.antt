@@ -1,13 +1,9 @@
-use native.Mathlib.Omega.{arith}
 use mathlib.Core.Path.{sym, _∙_}
 use Rattle.refusal.proofs.First.{pass, stop, first-end, right-length, wrong-length}
 use Rattle.forest.specs.Start.{startRefusal}
 use borrow.Author.Needs.{needs}
 use Rattle.forest.proofs.starting.start_refusal.Statement.{statement}
 use Rattle.forest.proofs.starting.start_refusal.Tie as tie
-use Rattle.forest.proofs.starting.start_refusal.Reads as reads
-use Rattle.forest.proofs.starting.start_refusal.Lts as lts
-use Rattle.refusal.proofs.bad_count.Reads as bad-count-reads
 
 bad-count-requires : tie.Need-bad-count-requires
 bad-count-requires c κs = search needs

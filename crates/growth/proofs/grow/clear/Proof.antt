@@ -1,11 +1,7 @@
-use native.Mathlib.Omega.{arith}
 use Rattle.growth.proofs.Rooms.{work-cleared}
 use borrow.Author.Needs.{needs}
 use Rattle.growth.proofs.grow.clear.Statement.{statement}
 use Rattle.growth.proofs.grow.clear.Tie as tie
-use Rattle.growth.proofs.grow.clear.Reads as reads
-use Rattle.growth.proofs.grow.clear.Lts as lts
-use Rattle.table.proofs.fill.Reads as fill-reads
 
 fill-requires : tie.Need-fill-requires
 fill-requires c κs = search needs

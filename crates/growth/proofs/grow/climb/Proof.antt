@@ -1,18 +1,15 @@
 use native.Mathlib.Omega.{arith}
 use mathlib.Core.Path.{_≡_, refl}
-use mathlib.Core.Logic.{_⊎_, inl, inr, ⊎-elim}
 use Prim.Native.Nat.{ℕ, _-_, _<_}
 use mathlib.Core.List.{List}
-use lib.ListN.{length, getD, length-set}
+use lib.ListN.{length, length-set}
 use Rattle.game.specs.Edge.{Edge}
 use Rattle.game.proofs.Conn.{Conn}
-use Rattle.growth.specs.Growth.{Upward, Climbs, Standing, Climbing}
+use Rattle.growth.specs.Growth.{Upward, Standing, Climbing}
 use Rattle.growth.proofs.Climb.{climb-start, climb-jump, climb-root, climb-done, upward-set, upward-next}
 use borrow.Author.Needs.{needs}
 use Rattle.growth.proofs.grow.climb.Statement.{statement}
 use Rattle.growth.proofs.grow.climb.Tie as tie
-use Rattle.growth.proofs.grow.climb.Reads as reads
-use Rattle.growth.proofs.grow.climb.Lts as lts
 
 -- where the climb stands, for whatever graph the tables stand for
 record Turn (u y : ℕ) (was jumps p jump : List ℕ) (w : ℕ) : Type 0 where

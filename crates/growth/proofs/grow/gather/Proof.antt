@@ -5,14 +5,11 @@ use Prim.Native.Nat.{ℕ, _-_, _<_, _≤_}
 use native.Mathlib.Nat.{le-refl}
 use lib.ListN.{length}
 use Rattle.game.specs.Edge.{Edge}
-use Rattle.growth.specs.Growth.{Upward, Standing, Offers, Gathered, Gathers}
+use Rattle.growth.specs.Growth.{Upward, Standing, Offers, Gathered}
 use Rattle.growth.proofs.Raise.{gather-start, gather-climb, gather-end}
 use borrow.Author.Needs.{needs}
 use Rattle.growth.proofs.grow.gather.Statement.{statement}
 use Rattle.growth.proofs.grow.gather.Tie as tie
-use Rattle.growth.proofs.grow.gather.Reads as reads
-use Rattle.growth.proofs.grow.gather.Lts as lts
-use Rattle.growth.proofs.grow.climb.Reads as climb-reads
 
 -- the places up to i are gathered, for whatever graph the tables stand for
 record Turn (y from to : ℕ) (lower was jumps p jump : List ℕ) (i : ℕ) : Type 0 where

@@ -13,10 +13,6 @@ use Rattle.growth.proofs.Raise.{below-zero, raise-start, raise-gather, 
 use borrow.Author.Needs.{needs}
 use Rattle.growth.proofs.grow.raise.Statement.{statement}
 use Rattle.growth.proofs.grow.raise.Tie as tie
-use Rattle.growth.proofs.grow.raise.Reads as reads
-use Rattle.growth.proofs.grow.raise.Lts as lts
-use Rattle.growth.proofs.grow.gather.Reads as gather-reads
-use Rattle.growth.proofs.grow.wide.Reads as wide-reads
 
 -- the vertices below y are raised, for whatever graph is filed
 record Turn (ends lower p jump : List ℕ) (at y : ℕ) : Type 0 where

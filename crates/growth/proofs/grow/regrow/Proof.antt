@@ -1,5 +1,4 @@
-use native.Mathlib.Omega.{arith}
-use mathlib.Core.Path.{_≡_, refl, ap, _∙_}
+use mathlib.Core.Path.{refl, ap, _∙_}
 use Prim.Native.Nat.{ℕ}
 use lib.ListN.{replicate}
 use Rattle.game.specs.Game.{absent}
@@ -7,11 +6,6 @@ use Rattle.growth.proofs.Rooms.{same-room}
 use borrow.Author.Needs.{needs}
 use Rattle.growth.proofs.grow.regrow.Statement.{statement}
 use Rattle.growth.proofs.grow.regrow.Tie as tie
-use Rattle.growth.proofs.grow.regrow.Reads as reads
-use Rattle.growth.proofs.grow.regrow.Lts as lts
-use Rattle.table.proofs.fill.Reads as fill-reads
-use Rattle.growth.proofs.grow.clear.Reads as clear-reads
-use Rattle.growth.proofs.grow.raise.Reads as raise-reads
 
 fill-requires : tie.Need-fill-requires
 fill-requires c κs = search needs

@@ -1,10 +1,7 @@
-use native.Mathlib.Omega.{arith}
 use Rattle.growth.proofs.Put.{exchanged-root, exchanged-on, exchanged-swap}
 use borrow.Author.Needs.{needs}
 use Rattle.growth.proofs.putting.exchange.Statement.{statement}
 use Rattle.growth.proofs.putting.exchange.Tie as tie
-use Rattle.growth.proofs.putting.exchange.Reads as reads
-use Rattle.growth.proofs.putting.exchange.Lts as lts
 
 mul-parent : tie.Need-mul-parent
 mul-parent c = search needs

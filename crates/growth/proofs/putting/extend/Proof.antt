@@ -6,13 +6,6 @@ use Rattle.growth.proofs.Rooms.{same-room}
 use borrow.Author.Needs.{needs}
 use Rattle.growth.proofs.putting.extend.Statement.{statement}
 use Rattle.growth.proofs.putting.extend.Tie as tie
-use Rattle.growth.proofs.putting.extend.Reads as reads
-use Rattle.growth.proofs.putting.extend.Lts as lts
-use Rattle.bucket.proofs.file_edges.Reads as file-edges-reads
-use Rattle.growth.proofs.grow.clear.Reads as clear-reads
-use Rattle.growth.proofs.grow.regrow.Reads as regrow-reads
-use Rattle.growth.proofs.putting.budget.Reads as budget-reads
-use Rattle.growth.proofs.putting.put_some.Reads as put-some-reads
 
 budget-requires : tie.Need-budget-requires
 budget-requires c κs = search needs

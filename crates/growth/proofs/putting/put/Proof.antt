@@ -1,11 +1,7 @@
-use native.Mathlib.Omega.{arith}
 use Rattle.growth.proofs.Put.{put-turned}
 use borrow.Author.Needs.{needs}
 use Rattle.growth.proofs.putting.put.Statement.{statement}
 use Rattle.growth.proofs.putting.put.Tie as tie
-use Rattle.growth.proofs.putting.put.Reads as reads
-use Rattle.growth.proofs.putting.put.Lts as lts
-use Rattle.growth.proofs.putting.put_up.Reads as put-up-reads
 
 put-up-requires : tie.Need-put-up-requires
 put-up-requires c κs = search needs

@@ -6,9 +6,6 @@ use Rattle.growth.proofs.Put.{put-none, put-ends, put-next}
 use borrow.Author.Needs.{needs}
 use Rattle.growth.proofs.putting.put_some.Statement.{statement}
 use Rattle.growth.proofs.putting.put_some.Tie as tie
-use Rattle.growth.proofs.putting.put_some.Reads as reads
-use Rattle.growth.proofs.putting.put_some.Lts as lts
-use Rattle.growth.proofs.putting.put.Reads as put-reads
 
 abbrev Inv-loop : tie.InvT-loop
 Inv-loop parents₀ edges budget steps₀ i₀ parents steps i = PutUpTo parents₀ edges parents i × (steps ≤ budget + length parents₀)

@@ -1,15 +1,10 @@
 use native.Mathlib.Omega.{arith}
-use mathlib.Core.Path.{_≡_}
 use Prim.Native.Nat.{_-_}
 use lib.ListN.{length}
 use Rattle.game.specs.Edge.{_─_}
 use Rattle.growth.proofs.Put.{Trading, trade-start, trade-step, trade-end}
-use borrow.Author.Needs.{needs}
 use Rattle.growth.proofs.putting.put_up.Statement.{statement}
 use Rattle.growth.proofs.putting.put_up.Tie as tie
-use Rattle.growth.proofs.putting.put_up.Reads as reads
-use Rattle.growth.proofs.putting.put_up.Lts as lts
-use Rattle.growth.proofs.putting.exchange.Reads as exchange-reads
 
 abbrev Inv-loop : tie.InvT-loop
 Inv-loop parents₀ from to low₀ high₀ steps₀ parents low high steps = Trading parents₀ (from ─ to) parents low high steps

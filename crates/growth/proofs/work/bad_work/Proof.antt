@@ -1,11 +1,7 @@
-use native.Mathlib.Omega.{arith}
 use mathlib.Core.Path.{sym}
 use Rattle.growth.proofs.Rooms.{bad-ends, bad-jump, bad-lower}
-use borrow.Author.Needs.{needs}
 use Rattle.growth.proofs.work.bad_work.Statement.{statement}
 use Rattle.growth.proofs.work.bad_work.Tie as tie
-use Rattle.growth.proofs.work.bad_work.Reads as reads
-use Rattle.growth.proofs.work.bad_work.Lts as lts
 
 returns : tie.Need-returns
 returns c = sym (bad-ends _ _ _ (c .if1 .taken))

@@ -1,12 +1,8 @@
-use native.Mathlib.Omega.{arith}
 use mathlib.Core.Path.{sym, _∙_}
 use Rattle.net.specs.Damage.{damagedBy}
 use borrow.Author.Needs.{needs}
 use Rattle.net.proofs.Forest.is_damaged.Statement.{statement}
 use Rattle.net.proofs.Forest.is_damaged.Tie as tie
-use Rattle.net.proofs.Forest.is_damaged.Reads as reads
-use Rattle.net.proofs.Forest.is_damaged.Lts as lts
-use Rattle.net.proofs.is_sound.Reads as is-sound-reads
 
 -- src/lib.rt:43:12
 is-sound-requires : tie.Need-is-sound-requires
