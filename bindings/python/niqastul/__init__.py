@@ -9,6 +9,8 @@
     net.report(limit, blocks, edges)    that, and what it costs: block counts, bound and volume of communication
     relabel(order, edges)               an edge list in vertex numbers, as ranks in an order
 
+The same on files, from the command line: python3 -m niqastul -h.
+
 A table is a list of integers or an array("I"), which is used without a copy. A call that is refused raises Refused, with every table
 as it was. Calls let other threads run; they must leave the tables of a running call alone.
 
@@ -16,6 +18,7 @@ The library is the file that NIQASTUL_LIBRARY names, or that of this repository 
 
 import collections
 import ctypes
+import functools
 import os
 import pathlib
 from array import array
@@ -30,7 +33,7 @@ REASONS = {
     3: "an entry of the order is out of range or repeats",
     4: "an edge names a vertex out of range",
     5: "both ends of an edge are one vertex",
-    6: "not a file of as many records as the net has vertices",
+    6: "not whole records, or not as many as the net has vertices",
     7: "a record's parent is neither absent nor above its vertex",
     8: "a limit or a number of blocks out of range",
     20: "more than 16,000,000 edges in all",
@@ -117,7 +120,7 @@ def table(entries):
 
 
 def zeros(length):
-    return array("I", bytes(4 * length))
+    return array("I", [0]) * length
 
 
 def within(number, most):
@@ -136,14 +139,16 @@ def words(lent):
 
 def call(name, *lent):
     """Lends tables and numbers to a call, and raises its refusal."""
-    number = getattr(LIBRARY, "niqastul_" + name)(*(word for its in lent for word in words(its)))
+    number = getattr(library(), "niqastul_" + name)(*(word for its in lent for word in words(its)))
     if number:
         raise Refused(number)
 
 
-def load():
-    built = pathlib.Path(__file__).resolve().parent.parent.parent / "target" / "lib" / "libniqastul.so"
-    return ctypes.CDLL(os.environ.get("NIQASTUL_LIBRARY") or (str(built) if built.exists() else "libniqastul.so.0"))
-
-
-LIBRARY = load()
+@functools.lru_cache(maxsize=None)
+def library():
+    """Loaded at the first call, so that help and what needs no library do without."""
+    built = pathlib.Path(__file__).resolve().parents[3] / "target" / "lib" / "libniqastul.so"
+    try:
+        return ctypes.CDLL(os.environ.get("NIQASTUL_LIBRARY") or (str(built) if built.exists() else "libniqastul.so.0"))
+    except OSError as error:
+        raise OSError(f"{error}; `make` builds the library, NIQASTUL_LIBRARY names one elsewhere") from error
