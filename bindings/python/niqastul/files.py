@@ -1,0 +1,92 @@
+"""Files: 32-bit numbers in them, and what is written, put in place only when it is whole."""
+
+import contextlib
+import os
+import shutil
+import sys
+from array import array
+
+from . import Refused
+
+
+class Unusable(Exception):
+    """A file that is there but cannot serve; the text says which and why."""
+
+
+def content(path):
+    with open(path, "rb") as file:
+        return file.read()
+
+
+def whole(data, size):
+    """The bytes, refused unless they are whole records of a size."""
+    if len(data) % size:
+        raise Refused(6)
+    return data
+
+
+def numbers(data):
+    """The little-endian 32-bit numbers in bytes."""
+    its = array("I", data)
+    if sys.byteorder == "big":
+        its.byteswap()
+    return its
+
+
+@contextlib.contextmanager
+def of_file(name):
+    """A refusal within says of which file it speaks."""
+    try:
+        yield
+    except Refused as refusal:
+        refusal.args = (f"{refusal} ({name})",)
+        raise
+
+
+def beside(path):
+    """Where a file or folder is, links followed, and a name beside it that no other run uses."""
+    target = os.path.realpath(path)
+    return target, f"{target}.{os.getpid()}.part"
+
+
+def replace(path, data):
+    """Writes a file beside the one that is named and moves it there: who reads finds the old file or the new one, whole."""
+    target, part = beside(path)
+    if os.path.exists(target) and not os.path.isfile(target):
+        raise Unusable(f"{path}: not a file that can be replaced")
+    with open(part, "xb") as file:
+        with undone_on_error(lambda: os.unlink(part)):
+            file.write(data)
+            file.flush()
+            os.fsync(file.fileno())
+            os.replace(part, target)
+
+
+@contextlib.contextmanager
+def replaced_folder(path, replaceable):
+    """A new folder to write into, which takes the place of the one that is named when all is written. A folder that is there must be
+    empty or `replaceable`, told by the names in it, and goes as a whole: nothing of it is left among the new files."""
+    target, part = beside(path)
+    there = os.path.lexists(target)
+    if there and not os.path.isdir(target):
+        raise Unusable(f"{path}: not a folder")
+    if there and not replaceable(os.listdir(target)):
+        raise Unusable(f"{path}: holds other files; name a new or empty folder")
+    os.mkdir(part)
+    with undone_on_error(lambda: shutil.rmtree(part)):
+        yield part
+        if there:
+            os.rename(target, part + ".old")
+        with undone_on_error(lambda: there and os.rename(part + ".old", target)):
+            os.rename(part, target)
+    if there:
+        shutil.rmtree(part + ".old")
+
+
+@contextlib.contextmanager
+def undone_on_error(undo):
+    try:
+        yield
+    except BaseException:
+        undo()
+        raise
