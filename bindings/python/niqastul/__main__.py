@@ -1,0 +1,79 @@
+"""The command line: python3 -m niqastul -h. Arguments are read and handed on here; what a command does stands in its module."""
+
+import argparse
+import sys
+
+from . import Refused, files, links, picture, split, together
+from .progress import Progress
+
+ABOUT = "Nets as files: grown, joined, split into blocks, laid together again and drawn."
+
+FORMATS = """files, little-endian 32-bit numbers without a header:
+  marks.ord   the order: mark numbers, the first to be eliminated first
+  ties.rec    ties, two mark numbers each
+  want.rec    the limit of a group's load, 1 to 16,000,000, and the number of blocks, 1 to 1,000
+  net.link    a link file: for each rank its parent, FFFFFFFF for none, and its load
+exit status:
+  0   done; for together: the blocks are the net
+  1   refused, with the number and its meaning; for together: the blocks are not the net, or not as they were split
+  2   bad usage, or a file that cannot be read or written
+What is refused or fails changes no file; a file or folder that is there is replaced only when the new one is whole."""
+
+GROW = "grow the net of ties and write its link file"
+
+JOIN = "join two nets and write the link file of the ties of both"
+
+SPLIT = """divide a net and write its blocks as files
+DIR is made, or is empty, or holds an earlier split, which is replaced whole. In it are
+  block-NNN.rec      the ties of a block, in the order of ties.rec
+  block-NNN.border   a line for each mark with ties in this block and in others: the mark, then those other blocks
+  summary.txt        marks, ties, limit, bound, volume, and of each block: load, ties, marks (with a tie in it),
+                     own (marks whose group is in it), border (marks with ties in other blocks too)
+  summary.json       the same, and a digest of each block's ties"""
+
+TOGETHER = """say whether the blocks, laid together, are the net
+Grows each block's file by itself, joins the nets, and compares the result with net.link, byte for byte. What leaves the net
+as it is, such as a tie that was moved from one block's file to another's, is told by the loads and digests in the summary."""
+
+PICTURE = """draw a divided net as SVG
+With places.txt, two numbers a line by mark number, x to the right and y up: the ties at their places, coloured by block.
+Without it: the elimination forest, its groups coloured by block. Border marks, those with ties in several blocks, are ringed.
+Of a net above some thousand marks a part is drawn, and the picture says so."""
+
+COMMANDS = (
+    (links.grow, "marks.ord ties.rec net.link", GROW),
+    (links.join, "a.link b.link out.link", JOIN),
+    (split.split, "marks.ord ties.rec want.rec DIR", SPLIT),
+    (together.together, "marks.ord DIR net.link", TOGETHER),
+    (picture.picture, "marks.ord ties.rec want.rec [places.txt] out.svg", PICTURE),
+)
+
+
+def parser():
+    form = {"epilog": FORMATS, "formatter_class": argparse.RawDescriptionHelpFormatter}
+    its = argparse.ArgumentParser("python3 -m niqastul", description=ABOUT, **form)
+    commands = its.add_subparsers(metavar="COMMAND", required=True)
+    for run, names, about in COMMANDS:
+        command = commands.add_parser(run.__name__, help=about.split("\n")[0], description=about, **form)
+        command.set_defaults(run=run, names=names.split())
+        for name in names.split():
+            command.add_argument(name.strip("[]"), nargs="?" if name.startswith("[") else None)
+    return its
+
+
+def main(argv=None):
+    arguments = vars(parser().parse_args(argv))
+    run, paths = arguments["run"], [arguments[name.strip("[]")] for name in arguments["names"]]
+    try:
+        return 1 if run(Progress(), *paths) is False else 0
+    except Refused as refusal:
+        print(refusal, file=sys.stderr)
+        return 1
+    except (OSError, files.Unusable) as error:
+        named = isinstance(error, OSError) and error.filename
+        print(f"niqastul: {f'{error.filename}: {error.strerror}' if named else error}", file=sys.stderr)
+        return 2
+
+
+if __name__ == "__main__":
+    sys.exit(main())
