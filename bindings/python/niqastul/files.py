@@ -46,6 +46,8 @@ def of_file(name):
 def beside(path):
     """Where a file or folder is, links followed, and a name beside it that no other run uses."""
     target = os.path.realpath(path)
+    if not os.path.isdir(os.path.dirname(target)):
+        raise Unusable(f"{path}: no folder to write it in")
     return target, f"{target}.{os.getpid()}.part"
 
 

@@ -2,7 +2,8 @@
 
 from array import array
 
-from . import ABSENT, svg
+from . import ABSENT, legend, svg
+from .thinning import note, thinned
 
 MOST = 4_000
 TALLEST = 900
@@ -28,16 +29,16 @@ def drawn(parents, report):
     elements += [svg.block_lines(block, links[block], 0.7 * radius) for block in sorted(links)]
     elements.append(svg.rings([points[x] for x in border], 1.7 * radius))
     elements += [svg.dots(dots[block], radius, svg.colour(block)) for block in sorted(dots)]
-    samples = [svg.ring_sample(radius), (lambda x, y: svg.lines([((x - 18, y), (x + 18, y))], 2, svg.GREY, CUT), "a link that was cut")]
-    return height, elements, samples, svg.note("marks", kept, parents)
+    samples = [legend.border_sample(radius), (lambda x, y: svg.lines([((x - 18, y), (x + 18, y))], 2, svg.GREY, CUT), "a link that was cut")]
+    return height, elements, samples, note("marks", kept, parents)
 
 
 def chosen(top):
     """The vertices that are drawn, by rising rank: all, or of the tops of groups and of the others about half each."""
     if len(top) <= MOST:
         return range(len(top))
-    tops = svg.thinned([x for x, its in enumerate(top) if x == its], MOST // 2)
-    others = svg.thinned([x for x, its in enumerate(top) if x != its], MOST - len(tops))
+    tops = thinned([x for x, its in enumerate(top) if x == its], MOST // 2)
+    others = thinned([x for x, its in enumerate(top) if x != its], MOST - len(tops))
     return sorted(tops + others)
 
 

@@ -1,6 +1,8 @@
 """The picture of a divided net, at the places of its vertices or, without places, as its elimination forest."""
 
-from . import files, forest, graph, places, svg
+from . import files, forest, graph, legend, places, svg
+
+WIDTH = 250    # of the legend
 
 
 def picture(progress, marks, ties, want, placed, out):
@@ -14,4 +16,12 @@ def picture(progress, marks, ties, want, placed, out):
     loads = list(report.division.block_loads)
     figures = [f"{len(its.order):,} marks, {len(its.edges) // 2:,} ties", f"limit {limit:,}, {len(loads):,} block{'s' * (len(loads) > 1)}",
                f"bound {report.bound:,}", f"volume {report.volume:,}"]
-    files.replace(out, svg.picture(title, height, drawn, svg.Legend(figures, loads, samples, notes)).encode())
+    files.replace(out, beside_legend(title, height, drawn, legend.Legend(figures, loads, samples, notes)).encode())
+
+
+def beside_legend(title, height, drawn, its):
+    """The whole picture: what is drawn, so many units high, and its legend to the right."""
+    explained, least = legend.drawn(its, svg.PLOT + 2 * svg.EDGE, svg.EDGE)
+    size = svg.PLOT + WIDTH + 3 * svg.EDGE, round(max(height + svg.EDGE, least)) + svg.EDGE
+    background = [svg.element("title", title), svg.element("rect", width=size[0], height=size[1], fill="white")]
+    return svg.document(*size, background + drawn + explained)

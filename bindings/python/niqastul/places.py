@@ -2,7 +2,8 @@
 
 import math
 
-from . import files, svg
+from . import files, legend, svg
+from .thinning import note, thinned
 
 MOST_EDGES = 12_000
 MOST_VERTICES = 4_000
@@ -38,9 +39,9 @@ def drawn(its, report, points):
     """The height, the elements, and for the legend samples and notes. Where vertices are too many to be told apart, only those of the
     border are drawn."""
     points, height = fitted(points)
-    edges = svg.thinned(range(len(report.edge_blocks)), MOST_EDGES)
+    edges = thinned(range(len(report.edge_blocks)), MOST_EDGES)
     border = [its.order[rank] for rank, count in enumerate(report.block_count) if count > 1]
-    ringed, dotted = svg.thinned(border, MOST_BORDER), range(len(points)) if len(points) <= MOST_VERTICES else []
+    ringed, dotted = thinned(border, MOST_BORDER), range(len(points)) if len(points) <= MOST_VERTICES else []
     radius = min(3.5, max(0.7, 0.14 * math.sqrt(svg.PLOT * height / len(points))))
     by_block = {}
     for edge in edges:
@@ -51,9 +52,9 @@ def drawn(its, report, points):
     elements = edge_lines(by_block, 0.6 * room if specks else 0.7 * radius, specks)
     elements.append(svg.rings([points[vertex] for vertex in ringed], 2 * radius))
     elements.append(svg.dots([points[vertex] for vertex in dotted or ringed], radius, svg.INK))
-    notes = svg.note("ties", edges, report.edge_blocks) + svg.note("border marks", ringed, border)
+    notes = note("ties", edges, report.edge_blocks) + note("border marks", ringed, border)
     notes += ["no other marks"] * (len(dotted) < len(points)) + ["ties as specks, without dashes"] * specks
-    return height, elements, [svg.ring_sample(radius)], notes
+    return height, elements, [legend.border_sample(radius)], notes
 
 
 def edge_lines(by_block, width, specks):
