@@ -13,6 +13,9 @@ import test_division
 import test_blocks
 import test_limits
 import test_bindings
+import test_commands
+import test_split
+import test_pictures
 import test_parts
 
 passed, failed = harness.run_all()

@@ -1,0 +1,216 @@
+"""The commands grow and join, and what all commands share: refusals by number, exit statuses, and files that are replaced whole or not
+touched."""
+
+import os
+import random
+import subprocess
+import sys
+from unittest import mock
+
+import nets
+from commands import PYTHON, THREE, a_folder
+from harness import test
+from oracle import blocks, calls
+from test_oracle import ORDER, TIES, file_of
+from test_parts import link_file
+
+WHOLE = {"marks_ord": file_of(*ORDER), "ties_rec": file_of(*TIES), "want_rec": file_of(4, 2)}
+LARGEST = file_of(calls.MAX_LIMIT, 1)
+
+# the commands that read an order and ties, with the names they are given
+READERS = (("grow", *THREE[:2], "out"), ("split", *THREE, "out"), ("picture", *THREE, "out"))
+
+
+@test(at_least=400)
+def grown_and_joined(t):
+    """Two nets grown from files and joined are those of the oracle, and the joined one is that of all ties."""
+    with a_folder() as folder:
+        for seed in range(70):
+            rng = random.Random(seed)
+            n = rng.randrange(1, 20)
+            order, lists = rng.sample(range(n), n), [nets.flat(nets.ties(rng, n, rng.choice(nets.SHAPES))) for _ in range(2)]
+            folder.write(marks_ord=file_of(*order))
+            for name, edges in zip(("a.link", "b.link"), lists):
+                folder.write(ties_rec=file_of(*edges))
+                t.same(folder.run("grow", "marks.ord", "ties.rec", name), (0, "", ""), seed)
+                t.same((folder.path / name).read_bytes(), link_file(order, edges), seed, name)
+            out = rng.choice(("a.link", "b.link", "out.link"))
+            t.same(folder.run("join", "a.link", "b.link", out), (0, "", ""), seed)
+            t.same((folder.path / out).read_bytes(), link_file(order, lists[0] + lists[1]), seed)
+
+
+def untouched(t, folder, words, number, *context):
+    """The command is refused with the number and its meaning, and no file is made or changed."""
+    before = folder.state()
+    status, out, err = folder.run(*words)
+    t.same((status, out), (1, ""), *words, *context)
+    t.true(err.startswith(f"refused {number}: ") and len(err) > 20, number, err, *words, *context)
+    t.same(folder.state(), before, *words, *context)
+
+
+@test(at_least=200)
+def refusals(t):
+    """Each refusal of files, with no output there and with an old one."""
+    faults = [(1, {"marks_ord": b""}), (1, {"marks_ord": b"abc"}), (1, {"marks_ord": bytes(4 * calls.MAX_MARKS + 4)}),
+              (6, {"marks_ord": WHOLE["marks_ord"] + b"\0"}), (6, {"ties_rec": WHOLE["ties_rec"][:-4]}),
+              (6, {"ties_rec": b"abc", "marks_ord": bytes(8)}),
+              (3, {"marks_ord": file_of(0, 1, 2, 3, 4, 4)}), (3, {"marks_ord": file_of(0, 1, 6), "ties_rec": file_of(7, 7)}),
+              (4, {"ties_rec": file_of(0, 1, 2, 6, 3, 3)}), (5, {"ties_rec": file_of(0, 1, 3, 3, 2, 6)})]
+    wants = [(6, {"want_rec": b""}), (6, {"want_rec": file_of(4)}), (6, {"want_rec": file_of(4, 2, 1), "marks_ord": bytes(8)}),
+             (8, {"want_rec": file_of(0, 2), "ties_rec": file_of(7, 7)}), (8, {"want_rec": file_of(4, 1001)}), (8, {"want_rec": file_of(4, 0)}),
+             (8, {"want_rec": file_of(calls.MAX_LIMIT + 1, 1)}), (3, {"want_rec": file_of(0, 0), "marks_ord": bytes(8)}),
+             (4, {"want_rec": file_of(1, 2), "ties_rec": file_of(0, 6)}), (22, {"want_rec": file_of(2, 2)})]
+    with a_folder() as folder:
+        for words in READERS:
+            for number, fault in faults + wants * (words[0] != "grow"):
+                folder.write(**(WHOLE | fault), out=None)
+                untouched(t, folder, words, number, str(fault)[:200])
+                if words[0] != "split":
+                    folder.write(out=b"old")
+                    untouched(t, folder, words, number, str(fault)[:200])
+        folder.write(**WHOLE, out=None)
+        t.same(folder.run(*READERS[1])[0], 0)
+        folder.write(ties_rec=file_of(0, 0))
+        untouched(t, folder, READERS[1], 5, "an earlier split stays")
+
+
+@test(at_least=3)
+def longest_files(t):
+    """One tie more than 16,000,000 is 20, unless one is faulty."""
+    with a_folder(large=True) as folder:
+        folder.write(marks_ord=file_of(2, 0, 1), ties_rec=file_of(0, 2) * (calls.MAX_TOTAL + 1))
+        t.same(folder.run(*READERS[0])[::2], (1, "refused 20: more than 16,000,000 edges in all\n"))
+        with open(folder.path / "ties.rec", "r+b") as file:
+            file.seek(8 * calls.MAX_TOTAL)
+            file.write(file_of(1, 1))
+        t.same(folder.run(*READERS[0])[0::2], (1, "refused 5: both ends of an edge are one vertex\n"))
+        t.true(not (folder.path / "out").exists())
+
+
+@test(at_least=1_000)
+def broken_files(t):
+    """Small nets, a byte now and then changed or left out: refused as document 01 says, or done."""
+    seen = set()
+    with a_folder() as folder:
+        for seed in range(200):
+            rng = random.Random(seed)
+            n = rng.randrange(1, 8)
+            lists = rng.sample(range(n), n), nets.flat(nets.ties(rng, n, rng.choice(nets.SHAPES))), (rng.randrange(1, 9), rng.randrange(1, 5))
+            given, which = [file_of(*numbers) for numbers in lists], rng.randrange(3)
+            given[1] += file_of(0, 0) * (seed % 10 == 0)
+            place = rng.randrange(len(given[which]) + 1)
+            given[which] = given[which][:place] + (bytes([rng.randrange(256)]) + given[which][place + 1:]) * rng.randrange(2)
+            folder.write(**dict(zip(WHOLE, given)))
+            for words in READERS:
+                number = blocks.refusal(*given[:2], LARGEST if words[0] == "grow" else given[2])
+                seen.add((words[0], number))
+                if number:
+                    untouched(t, folder, words, number, seed)
+                else:
+                    t.same(folder.run(*words[:-1], words[0]), (0, "", ""), *words, seed)
+    t.same({(words[0], number) for words in READERS for number in (0, 1, 3, 4, 5, 6)} - seen, set(), "not met")
+
+
+def join_refusal(one, other):
+    """Document 01's order: 1, 6, 21, 7, 20."""
+    counts = len(one) // 8, len(other) // 8
+    if 0 in counts:
+        return 1
+    if len(one) % 8 or len(other) % 8:
+        return 6
+    if counts[0] != counts[1]:
+        return 21
+    if any(calls.breaks_rule_of_7(calls.words(link)[0::2]) for link in (one, other)):
+        return 7
+    return 20 if sum(calls.words(one)[1::2] + calls.words(other)[1::2]) > calls.MAX_TOTAL else 0
+
+
+@test(at_least=500)
+def broken_links(t):
+    """Link files with several faults at once."""
+    seen = set()
+    with a_folder() as folder:
+        for seed in range(250):
+            rng, links = random.Random(seed), []
+            for n in rng.choice(((3, 3), (3, 3), (3, 4))):
+                numbers = [number for record in zip(*nets.sound_net(rng, n)) for number in record]
+                if rng.random() < 0.4:
+                    numbers[rng.randrange(len(numbers))] = rng.choice((0, 1, calls.MAX_TOTAL, calls.MAX_TOTAL + 1, 0xFFFFFFFF))
+                link = file_of(*numbers)
+                links.append(link[:rng.randrange(len(link))] if rng.random() < 0.15 else link)
+            folder.write(a_link=links[0], b_link=links[1], out=rng.choice((b"old", None)))
+            number = join_refusal(*links)
+            seen.add(number)
+            if number:
+                untouched(t, folder, ("join", "a.link", "b.link", "out"), number, seed)
+            else:
+                t.same(folder.run("join", "a.link", "b.link", "out"), (0, "", ""), seed)
+    t.same(seen, {0, 1, 6, 7, 20, 21})
+
+
+@test(at_least=40)
+def unusable(t):
+    """2 and a line that names the file: one that is not there, a folder for a file, a pipe that must not be replaced, bad places."""
+    with a_folder() as folder:
+        folder.write(**WHOLE, some=b"text", places_txt=b"0 0\n" * 6)
+        (folder.path / "taken").mkdir()
+        (folder.path / "taken" / "other").write_bytes(b"")
+        os.mkfifo(folder.path / "pipe")
+        cases = [(words[:place] + ("gone",) + words[place + 1:], "gone: ") for words in READERS for place in range(1, len(words) - 1)]
+        cases += [(READERS[0][:3] + (name,), name + ": ") for name in ("taken", "pipe", "gone/out")]
+        cases += [(READERS[1][:4] + (name,), name + ": ") for name in ("taken", "some", "marks.ord")]
+        cases += [(READERS[2][:4] + ("some", "out"), "some: line 1 is not two numbers"), (READERS[2][:4] + ("gone", "out"), "gone: ")]
+        cases += [(("together", "marks.ord", name, "some"), text) for name, text in (("taken", "refused 6"), ("gone", "refused 6"))]
+        for words, text in cases:
+            before = {name: data for name, data in folder.state().items() if "pipe" not in name}
+            status, out, err = folder.run(*words)
+            t.same((status, out), (1 if "refused" in text else 2, ""), *words)
+            t.true(text in err and err.count("\n") == 1, err, *words)
+            t.same({name: data for name, data in folder.state().items() if "pipe" not in name}, before, *words)
+        t.true((folder.path / "pipe").is_fifo())
+        for places in (b"0 0\n" * 5, b"0 0\n" * 7, b"0 0\n" * 5 + b"0 inf\n", b"0 0\n" * 5 + b"0\n", b"0 0\n" * 5 + b"0 0 0\n", b"\xff"):
+            folder.write(places_txt=places)
+            t.same(folder.run(*READERS[2][:4], "places.txt", "out")[0], 2, str(places))
+
+
+@test(at_least=8)
+def whole_or_not(t):
+    """A disk that is full while files are written: what was there stays, and nothing is left beside it."""
+    full = mock.Mock(side_effect=OSError(28, "No space left on device"))
+    with a_folder() as folder:
+        folder.write(**WHOLE)
+        for words in READERS:
+            t.same(folder.run(*words)[0], 0, *words)
+            before = folder.state()
+            for target in {"grow": ("os.fsync", "os.replace"), "split": ("json.dumps", "os.rename"), "picture": ("os.fsync",)}[words[0]]:
+                with mock.patch(target, full):
+                    t.same(folder.run(*words), (2, "", "niqastul: [Errno 28] No space left on device\n"), *words)
+                t.same(folder.state(), before, *words)
+            os.rename(folder.path / "out", folder.path / words[0])
+
+
+@test(at_least=14)
+def command_line(t):
+    """As a program: help and its exit status, usage, what is printed where."""
+    def ran(*words, **environment):
+        its = subprocess.run([sys.executable, "-m", "niqastul", *words], cwd=PYTHON, capture_output=True, text=True, env=os.environ | environment)
+        return its.returncode, its.stdout, its.stderr
+
+    status, out, _ = ran("-h", NIQASTUL_LIBRARY="/nowhere")
+    t.true(status == 0 and all(name in out for name in ("grow", "join", "split", "together", "picture", "exit status", "ties.rec")), out)
+    status, out, _ = ran("picture", "-h")
+    t.true(status == 0 and "[places.txt]" in out and "ringed" in out, out)
+    for words in ((), ("shrink",), ("grow", "a", "b"), ("grow", "a", "b", "c", "d"), ("grow", "--fast", "a", "b", "c")):
+        status, out, err = ran(*words)
+        t.true(status == 2 and out == "" and "usage: python3 -m niqastul" in err, *words)
+    with a_folder() as folder:
+        folder.write(**WHOLE)
+        names = [str(folder.path / name) for name in (*THREE, "DIR", "net.link", "out.svg")]
+        t.same(ran("grow", *names[:2], names[4]), (0, "", ""))
+        t.same(ran("split", *names[:4]), (0, "", ""))
+        t.same(ran("together", names[0], names[3], names[4]), (0, f"the blocks laid together are {names[4]}, byte for byte\n", ""))
+        t.same(ran("picture", *names[:3], names[5]), (0, "", ""))
+        t.same(ran("grow", names[1], names[1], names[4]), (1, "", "refused 3: an entry of the order is out of range or repeats\n"))
+        status, _, err = ran("grow", *names[:2], names[4], NIQASTUL_LIBRARY="/nowhere")
+        t.true(status == 2 and "NIQASTUL_LIBRARY" in err and err.count("\n") == 1, err)
+        t.same((folder.path / "net.link").read_bytes(), link_file(ORDER, TIES))
