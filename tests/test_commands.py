@@ -1,6 +1,7 @@
 """The commands grow and join, and what all commands share: refusals by number, exit statuses, and files that are replaced whole or not
 touched."""
 
+import itertools
 import os
 import random
 import subprocess
@@ -173,19 +174,30 @@ def unusable(t):
             t.same(folder.run(*READERS[2][:4], "places.txt", "out")[0], 2, str(places))
 
 
-@test(at_least=8)
+def full(call, at):
+    """A function of the system that finds the disk full when it is called for this time."""
+    times = itertools.count()
+
+    def called(*arguments):
+        if next(times) == at:
+            raise OSError(28, "No space left on device")
+        return call(*arguments)
+
+    return called
+
+
+@test(at_least=12)
 def whole_or_not(t):
-    """A disk that is full while files are written: what was there stays, and nothing is left beside it."""
-    full = mock.Mock(side_effect=OSError(28, "No space left on device"))
+    """A disk that is full while files are written or moved: what was there stays, and nothing is left beside it."""
     with a_folder() as folder:
         folder.write(**WHOLE)
-        for words in READERS:
+        for words, faults in zip(READERS, ((("fsync", 0), ("replace", 0)), (("mkdir", 0), ("rename", 0), ("rename", 1)), (("fsync", 0), ("replace", 0)))):
             t.same(folder.run(*words)[0], 0, *words)
             before = folder.state()
-            for target in {"grow": ("os.fsync", "os.replace"), "split": ("json.dumps", "os.rename"), "picture": ("os.fsync",)}[words[0]]:
-                with mock.patch(target, full):
-                    t.same(folder.run(*words), (2, "", "niqastul: [Errno 28] No space left on device\n"), *words)
-                t.same(folder.state(), before, *words)
+            for name, at in faults:
+                with mock.patch(f"os.{name}", full(getattr(os, name), at)):
+                    t.same(folder.run(*words), (2, "", "niqastul: [Errno 28] No space left on device\n"), *words, name)
+                t.same(folder.state(), before, *words, name)
             os.rename(folder.path / "out", folder.path / words[0])
 
 

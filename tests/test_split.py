@@ -116,7 +116,8 @@ def told(t, folder, files, wanted, *context):
 
 @test(at_least=700)
 def changed_files(t):
-    """A tie taken out, doubled, changed or moved is told; ties in another order, or their ends, are not."""
+    """A tie taken out, doubled, changed or moved is told, and a link file of which one bit is another; ties in another order, or their
+    ends, are not."""
     quiet = 0
     with a_folder() as folder:
         for seed in range(200):
@@ -136,6 +137,11 @@ def changed_files(t):
                 other = (block + rng.randrange(1, case.k)) % case.k
                 out = told(t, folder, {block: fewer, other: case.of_block(other) + [ties[place]]}, load, "moved", seed)
                 t.true("net.link, byte for byte, but not as they were split" in out, out, seed)
+            link = bytearray(link_file(case.order, nets.flat(case.ties)))
+            link[rng.randrange(len(link))] ^= 1 << rng.randrange(8)
+            folder.write(net_link=link)
+            told(t, folder, {}, "the blocks laid together are NOT ", "a bit of the link file", seed)
+            folder.write(net_link=link_file(case.order, nets.flat(case.ties)))
             turned = [tie[::-1] for tie in rng.sample(ties, len(ties))]
             (folder.path / "DIR" / f"block-{block:03}.rec").write_bytes(file_of(*nets.flat(turned)))
             t.same(folder.run(*TOGETHER)[0], 0, "another order", seed)
