@@ -26,12 +26,15 @@ def listed(text):
             continue
         name, colon, rest = line.partition(":")
         if colon:
-            needs[name], about[name] = rest.partition("#")[0].split(), " ".join(said)
+            needs[name.strip()], about[name.strip()] = rest.partition("#")[0].split(), " ".join(said)
         said = []
     needs = {name: {other for other in its if other in needs} for name, its in needs.items()}
     order = []
     while len(order) < len(needs):
-        order.append(next(name for name in needs if name not in order and needs[name] <= set(order)))
+        ready = [name for name in needs if name not in order and needs[name] <= set(order)]
+        if not ready:
+            raise ValueError(f"crates.txt: a cycle among {sorted(set(needs) - set(order))}")
+        order.append(ready[0])
     return order, needs, about
 
 
@@ -88,7 +91,7 @@ def said(x, y, comment):
     """A comment in one line or, where it is long, in two."""
     lines = textwrap.wrap(html.escape(comment, quote=False), int(LETTERS * (WIDTH - x)))
     if not 1 <= len(lines) <= 2:
-        sys.exit(f"crates.txt: a line on each crate, to stand above it; not {comment!r}")
+        raise ValueError(f"crates.txt: the comment above a crate says in a line what it holds; this does not: {comment!r}")
     return [svg.text(x, y + 5 + 14 * place - 7 * (len(lines) - 1), line, font_size=13) for place, line in enumerate(lines)]
 
 

@@ -4,6 +4,7 @@ touched."""
 import itertools
 import os
 import random
+import re
 import subprocess
 import sys
 from unittest import mock
@@ -11,12 +12,16 @@ from unittest import mock
 import nets
 from commands import PYTHON, THREE, a_folder
 from harness import test
+from library import ROOT
 from oracle import blocks, calls
 from test_oracle import ORDER, TIES, file_of
 from test_parts import link_file
 
 WHOLE = {"marks_ord": file_of(*ORDER), "ties_rec": file_of(*TIES), "want_rec": file_of(4, 2)}
 LARGEST = file_of(calls.MAX_LIMIT, 1)
+
+# the commands that README shows
+SHOWN = re.findall(r"^    python3 -m niqastul ([^#\n]+)", (ROOT / "README.md").read_text(), re.M)
 
 # the commands that read an order and ties, with the names they are given
 READERS = (("grow", *THREE[:2], "out"), ("split", *THREE, "out"), ("picture", *THREE, "out"))
@@ -226,3 +231,13 @@ def command_line(t):
         status, _, err = ran("grow", *names[:2], names[4], NIQASTUL_LIBRARY="/nowhere")
         t.true(status == 2 and "NIQASTUL_LIBRARY" in err and err.count("\n") == 1, err)
         t.same((folder.path / "net.link").read_bytes(), link_file(ORDER, TIES))
+
+
+@test(at_least=4, given=SHOWN)
+def commands_of_readme(t):
+    """Those that README shows, on the yard, one after the other."""
+    with a_folder() as folder:
+        subprocess.run([sys.executable, ROOT / "examples" / "yard.py", folder.path], check=True)
+        for line in SHOWN:
+            status, _, err = folder.run(*line.split())
+            t.same((status, err), (0, ""), line)

@@ -87,7 +87,7 @@ def thinned(t):
             t.true("and 972 more; looks repeat after 56" in shown, *shown)
 
 
-@test(at_least=5)
+@test(at_least=7)
 def map_of_crates(t):
     """docs/crates.svg is drawn from crates.txt as it is; and how a list is read, ordered and drawn."""
     listed = (ROOT / "crates.txt").read_text()
@@ -100,3 +100,9 @@ def map_of_crates(t):
     order, needs, about = crates.listed(small)
     t.same((order, about), (["a", "b", "c"], {"a": "low", "b": "middle", "c": "top"}))
     t.same(crates.reduced(order, needs), {"a": set(), "b": {"a"}, "c": {"b"}})
+    for faulty, told in (("a:\n", "says in a line what it holds"), ("# one\na: b\n# other\nb: a\n", "a cycle among ['a', 'b']")):
+        try:
+            crates.drawn(faulty)
+            t.true(False, faulty)
+        except ValueError as error:
+            t.true(told in str(error), str(error))
