@@ -17,7 +17,7 @@ def drawn(parents, report):
     kept = chosen(division.top)
     above = nearest(parents, kept)
     points, height, step = laid_out(kept, above)
-    radius = min(3.2, max(0.7, 0.22 * step))
+    radius = min(3.2, max(1.2, 0.22 * step))
     cut, links, dots = [], {}, {}
     for x in kept:
         dots.setdefault(division.block[x], []).append(points[x])
@@ -25,8 +25,8 @@ def drawn(parents, report):
             same = division.top[x] == division.top[above[x]]
             (links.setdefault(division.block[x], []) if same else cut).append((points[x], points[above[x]]))
     border = [x for x in kept if report.block_count[x] > 1]
-    elements = [svg.lines(cut, 0.5 * radius, svg.GREY, CUT)]
-    elements += [svg.block_lines(block, links[block], 0.7 * radius) for block in sorted(links)]
+    elements = [svg.lines(cut, max(1, 0.5 * radius), svg.GREY, CUT)]
+    elements += [svg.block_lines(block, links[block], max(1.2, 0.7 * radius)) for block in sorted(links)]
     elements.append(svg.rings([points[x] for x in border], 1.7 * radius))
     elements += [svg.dots(dots[block], radius, svg.colour(block)) for block in sorted(dots)]
     samples = [legend.border_sample(radius), (lambda x, y: svg.lines([((x - 18, y), (x + 18, y))], 2, svg.GREY, CUT), "a link that was cut")]
