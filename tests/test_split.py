@@ -3,6 +3,7 @@ were changed."""
 
 import collections
 import json
+import os
 import random
 from array import array
 
@@ -167,6 +168,8 @@ def broken_splits(t):
         ("net.link", link_file(case.order, []), 1, "net.link\n"),
         ("marks.ord", file_of(*case.order[::-1]), 1, "the blocks laid together are NOT "),
         ("marks.ord", b"", 1, "refused 1: "),
+        ("marks.ord", bytes(4 * case.n + 1), 1, "refused 6: "),
+        ("marks.ord", bytes(4 * case.n + 4), 1, "refused 6: "),
         ("marks.ord", file_of(*[0] * case.n), 1, "refused 3: "),
     ):
         with a_folder() as folder:
@@ -177,7 +180,7 @@ def broken_splits(t):
             t.true(ended == status and text in out + err, name, text, out, err)
 
 
-@test(at_least=8)
+@test(at_least=10)
 def split_again(t):
     """A split takes the place of an earlier one, whole, and of nothing else."""
     with a_folder() as folder:
@@ -189,12 +192,20 @@ def split_again(t):
         t.same(sorted(file.name for file in (folder.path / "DIR").iterdir()), names, "no block of the earlier split is left")
         t.same(folder.run(*TOGETHER)[0], 0)
         (folder.path / "empty").mkdir()
+        (folder.path / "empty").chmod(0o750)
         t.same(folder.run("split", *THREE, "empty")[0], 0, "an empty folder")
+        t.same((folder.path / "empty").stat().st_mode & 0o777, 0o750, "with the rights that it had")
         (folder.path / "DIR" / "notes.txt").write_text("mine")
         before = folder.state()
         t.same(folder.run("split", *THREE, "DIR")[0], 2, "a folder with another file")
         t.same(folder.state(), before)
         t.same(sorted(file.name for file in folder.path.iterdir()), ["DIR", "empty", *sorted((*THREE, "net.link"))], "nothing is left beside")
+        here = os.getcwd()
+        try:
+            os.chdir(folder.path / "empty")
+            t.same(folder.run("split", *THREE, "empty")[0], 2, "the folder that it runs in")
+        finally:
+            os.chdir(here)
 
 
 @test(at_least=20)

@@ -70,8 +70,8 @@ def main(argv=None):
         print(refusal, file=sys.stderr)
         return 1
     except (OSError, files.Unusable) as error:
-        named = isinstance(error, OSError) and error.filename
-        print(f"niqastul: {f'{error.filename}: {error.strerror}' if named else error}", file=sys.stderr)
+        text = f"{error.filename}: {error.strerror}" if isinstance(error, OSError) and error.filename else error
+        print(f"niqastul: {text}", file=sys.stderr)
         return 2
 
 

@@ -56,12 +56,15 @@ def replace(path, data):
     target, part = beside(path)
     if os.path.exists(target) and not os.path.isfile(target):
         raise Unusable(f"{path}: not a file that can be replaced")
-    with open(part, "xb") as file:
-        with undone_on_error(lambda: os.unlink(part)):
+    file = open(part, "xb")
+    with undone_on_error(lambda: os.unlink(part)):
+        with file:
             file.write(data)
             file.flush()
             os.fsync(file.fileno())
-            os.replace(part, target)
+        if os.path.exists(target):
+            shutil.copymode(target, part)
+        os.replace(part, target)
 
 
 @contextlib.contextmanager
@@ -74,10 +77,13 @@ def replaced_folder(path, replaceable):
         raise Unusable(f"{path}: not a folder")
     if there and not replaceable(os.listdir(target)):
         raise Unusable(f"{path}: holds other files; name a new or empty folder")
+    if there and os.path.samefile(target, os.curdir):
+        raise Unusable(f"{path}: is the folder that this runs in, and cannot be replaced")
     os.mkdir(part)
     with undone_on_error(lambda: shutil.rmtree(part)):
         yield part
         if there:
+            shutil.copymode(target, part)
             os.rename(target, part + ".old")
         with undone_on_error(lambda: there and os.rename(part + ".old", target)):
             os.rename(part, target)

@@ -40,8 +40,7 @@ def grown(progress, marks, ties, want=None):
 
 
 def ordered(marks):
-    """The order in a file's bytes: 1, 6, 3."""
-    Net(len(marks) // 4)
-    order = files.numbers(files.whole(marks, 4))
+    """The order in the bytes of whole records: 3."""
+    order = files.numbers(marks)
     relabel(order, [])
     return order
