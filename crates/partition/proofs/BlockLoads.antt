@@ -6,7 +6,7 @@ use mathlib.Core.Logic.{_≢_, _⊎_, inl, inr, ⊎-elim, by-cases}
 use mathlib.Core.Bool.{Bool, true, false, cond}
 use mathlib.Core.List.{List, [], _∷_}
 use Prim.Native.Nat.{ℕ, zero, suc, _+_, _-_, _*_, _≤_, _<_}
-use native.Mathlib.Nat.{add-zero, suc-mul, zero-mul, le-refl}
+use native.Mathlib.Nat.{add-zero, suc-mul, zero-mul}
 use native.Mathlib.Decide.{ℕ-discrete}
 use native.Mathlib.Omega.{arith}
 use lib.Dec.{eqb, ltb}
@@ -63,6 +63,9 @@ lightest-is loads h = go (length loads) refl
               ⊎-elim (λ f. inl (ltb-true (getD loads j 0) (getD loads i 0) f)) (λ f. inr f)
               (b .first i (in-stretch 0 (suc k) (omega arith) (omega (arith, e))));
         }
+
+pub lightest-found : {loads : List ℕ} {j : ℕ} → Lightest loads j → j ≡ lightest loads
+lightest-found {loads} a = lightest-unique a (lightest-is loads (omega (arith, a .inside)))
 
 -- one group put into a block
 module _ (loads : List ℕ) (j v : ℕ) where
@@ -203,56 +206,3 @@ sum-spread (x ∷ xs) (suc j) B h f =
     one-less : (n : ℕ) → 0 < n → n * B ≡ (n - 1) * B + B
     one-less zero l = absurd (omega arith)
     one-less (suc n) l = let e : suc n - 1 ≡ n = omega arith in rw e (suc-mul n B)
-
--- a scan for the lightest block: j, with load v, is the lightest of the first i
-pub record LightestOf (loads : List ℕ) (i j v : ℕ) : Type 0 where
-  pub within : i ≤ length loads
-  pub inside : j < i
-  pub load : v ≡ getD loads j 0
-  pub least : (y : ℕ) → y < i → v ≤ getD loads y 0
-  pub first : (y : ℕ) → y < i → (v < getD loads y 0) ⊎ (j ≤ y)
-
-pub lightest-begin : (loads : List ℕ) → 0 < length loads → LightestOf loads 1 0 (getD loads 0 0)
-lightest-begin loads h =
-    record {
-      within = omega arith;
-      inside = omega arith;
-      load = refl;
-      least = λ y l. let e : y ≡ 0 = omega arith in rw e (le-refl (getD loads 0 0));
-      first = λ y l. inr (omega arith);
-    }
-
-module _ {loads : List ℕ} {i j v : ℕ} (k : LightestOf loads i j v) where
-  pub lightest-taken : i < length loads → getD loads i 0 < v → {j′ v′ : ℕ} → j′ ≡ i → v′ ≡ getD loads i 0 → LightestOf loads (i + 1) j′ v′
-  lightest-taken l h p q =
-      record {
-        within = omega arith;
-        inside = omega arith;
-        load = rw (p, q) refl;
-        least = λ y m. by-cases (ℕ-discrete y i) (λ (e : y ≡ i). omega (arith, ap (λ (z : ℕ). getD loads z 0) e)) (λ (d : y ≢ i). omega (arith, k .least y (omega arith)));
-        first = λ y m. by-cases (ℕ-discrete y i) (λ (e : y ≡ i). inr (omega arith)) (λ (d : y ≢ i). inl (omega (arith, k .least y (omega arith))));
-      }
-
-  pub lightest-passed : i < length loads → v ≤ getD loads i 0 → {j′ v′ : ℕ} → j′ ≡ j → v′ ≡ v → LightestOf loads (i + 1) j′ v′
-  lightest-passed l h p q =
-      record {
-        within = omega arith;
-        inside = omega (arith, k .inside);
-        load = q ∙ k .load ∙ ap (λ (z : ℕ). getD loads z 0) (sym p);
-        least = λ y m. by-cases (ℕ-discrete y i) (λ (e : y ≡ i). omega (arith, ap (λ (z : ℕ). getD loads z 0) e)) (λ (d : y ≢ i). omega (arith, k .least y (omega arith)));
-        first =
-            λ y m.
-            by-cases (ℕ-discrete y i)
-            (λ (e : y ≡ i). inr (omega (arith, k .inside)))
-            (λ (d : y ≢ i). ⊎-elim (λ (f : v < getD loads y 0). inl (omega arith)) (λ (f : j ≤ y). inr (omega arith)) (k .first y (omega arith)));
-      }
-
-  pub lightest-found : length loads ≤ i → j ≡ lightest loads
-  lightest-found h =
-      lightest-unique
-      (record {
-        inside = omega (arith, k .inside, k .within);
-        least = λ y l. omega (arith, k .load, k .least y (omega arith));
-        first = λ y l. ⊎-elim (λ (f : v < getD loads y 0). inl (omega (arith, k .load))) (λ f. inr f) (k .first y (omega arith));
-      })
-      (lightest-is loads (omega (arith, k .inside, k .within)))

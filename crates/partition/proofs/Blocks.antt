@@ -4,7 +4,7 @@ use mathlib.Core.Path.{_≡_, refl, sym, ap, _∙_}
 use mathlib.Core.Logic.{_≢_, by-cases}
 use mathlib.Core.Bool.{Bool}
 use mathlib.Core.List.{List}
-use Prim.Native.Nat.{ℕ, suc, _+_, _≤_, _<_}
+use Prim.Native.Nat.{ℕ, suc, _+_, _%_, _≤_, _<_}
 use native.Mathlib.Numerals.{add-one}
 use native.Mathlib.Decide.{ℕ-discrete, decLt}
 use native.Mathlib.Omega.{arith}
@@ -16,9 +16,11 @@ use Rattle.game.specs.Table.{tabulate, sum}
 use Rattle.game.proofs.Tables.{sum-entry, tabulate-unique}
 use Rattle.refusal.specs.Limits.{maxTotal}
 use Rattle.partition.specs.Pack.{lightest, put, loadsBelow, blockOf}
-use Rattle.partition.specs.Work.{Packable, Packed, Topped, Assigned}
+use Rattle.partition.specs.Divide.{maxBlocks}
+use Rattle.partition.specs.Work.{Tournament, Packable, Packed, Topped, Assigned}
 use Rattle.partition.proofs.Sums.{only, total-more}
 use Rattle.partition.proofs.Carried.{entry}
+use Rattle.partition.proofs.Winners.{winner-lightest}
 use Rattle.partition.proofs.BlockLoads.{pack-none, pack-on, pack-pass, loads-length, loads-sum, block-inside, put-here}
 
 -- who is a top, by the table of tops
@@ -48,6 +50,13 @@ module _ {tops carried block₀ loads₀ : List ℕ} (g : Packable tops carried 
 
     pub packs-some : 0 < length loads
     packs-some = omega (arith, packs-length, g .some)
+
+    pub packs-few : length loads ≤ maxBlocks
+    packs-few = omega (arith, packs-length, g .few)
+
+    -- the winner is the lightest block
+    pub packs-winner : {nodes : List ℕ} → Tournament loads nodes → {r : ℕ} → r ≡ getD nodes 1 0 % 1_024 → r ≡ lightest loads
+    packs-winner n e = winner-lightest n packs-some packs-few e
 
     -- all groups are packed
     pub packs-all : length tops ≤ x → Packed tops carried block loads

@@ -13,6 +13,7 @@ pub mod Turns
 pub mod Lightening
 pub mod Ranks
 pub mod Climbing
+pub mod Winners
 pub mod Blocks
 pub mod Divided
 pub mod Laws

@@ -6,6 +6,7 @@ mod grouping;
 mod index;
 mod limits;
 mod packing;
+mod tournament;
 
 pub use dividing::cut_and_pack;
 pub use dividing::divide;

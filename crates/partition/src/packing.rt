@@ -1,29 +1,14 @@
 // Packing: groups by rising top into the lightest block.
 use crate::index::wide;
+use crate::tournament::NODES;
+use crate::tournament::replay;
+use crate::tournament::start;
+use crate::tournament::winner;
 ghost use mathlib.Core.Path.{_≡_};
 ghost use Prim.Native.Nat.{ℕ, _<_};
 ghost use lib.ListN.{length, getD, replicate};
 ghost use Rattle.refusal.specs.Answer.{number};
-ghost use Rattle.partition.specs.Pack.{lightest};
 ghost use Rattle.partition.specs.Work.{Packable, Packed, Topped, Assigned};
-
-// The block with the least load, of equals the lowest number.
-fn lightest_block(loads: &[u32]) -> usize
-    requires { ⌜ 0 < length (now loads) ⌝ }
-    ensures { λ r. ⌜ r ≡ lightest (now (loads .entry)) ⌝ }
-{
-    let mut best = 0;
-    let mut least = loads[0];
-    let mut i = 1;
-    while i < loads.len() {
-        if loads[i] < least {
-            best = i;
-            least = loads[i];
-        }
-        i += 1;
-    }
-    best
-}
 
 // Packs the groups by rising top, each into the block with the least load so far, and notes the block of each top.
 fn pack(top: &[u32], carried: &[u32], block: &mut [u32], loads: &mut [u32])
@@ -31,12 +16,15 @@ fn pack(top: &[u32], carried: &[u32], block: &mut [u32], loads: &mut [u32])
     requires { ⌜ now loads ≡ replicate (length (now loads)) 0 ⌝ }
     ensures { λ _. ⌜ Packed (now (top .entry)) (now (carried .entry)) (now (block .exit)) (now (loads .exit)) ⌝ }
 {
+    let mut nodes: [u64; NODES] = [0; NODES];
+    start(loads, &mut nodes);
     let mut x = 0;
     while x < top.len() {
         if wide(top[x]) == x {
-            let best = lightest_block(loads);
+            let best = winner(&nodes);
             block[x] = best as u32;
             loads[best] += carried[x];
+            replay(loads, best, &mut nodes);
         }
         x += 1;
     }
