@@ -3,7 +3,7 @@
 use mathlib.Core.Path.{_≡_, refl, sym, ap₂, subst, _∙_}
 use mathlib.Core.Logic.{_≢_, ⊎-elim}
 use mathlib.Core.List.{List, _∷_, List·Memᴰ, List·Memᴰ·head, List·Memᴰ·tail, List·Memᴰ·not-nil, List·Memᴰ·cases-cons}
-use Prim.Native.Nat.{ℕ, suc, _<_}
+use Prim.Native.Nat.{ℕ, suc, _≤_, _<_}
 use native.Mathlib.Omega.{arith}
 use lib.ListN.{getD, set}
 use lib.Seq.{getD-set-other}
@@ -32,6 +32,11 @@ chain-same {next} f g (node {y = y} {ys = ys} e k) (node {y = z} {ys = zs} q n) 
     let s : y ≡ z = sym e ∙ q in
     ap₂ _∷_ s
     (chain-same (λ v m. f v (List·Memᴰ·tail m)) (λ v m. g v (List·Memᴰ·tail m)) k (subst (λ (v : ℕ). Chain next (getD next v 0) zs) (sym s) n))
+
+-- from no head there is nothing
+pub chain-end : {next ys : List ℕ} {h z : ℕ} → h ≡ absent → ((v : ℕ) → List·Memᴰ v ys → v < absent) → Chain next h ys → List·Memᴰ z ys → ⊥
+chain-end e f (end q) m = List·Memᴰ·not-nil m
+chain-end e f (node {y = y} q n) m = omega (arith, e, q, f y (List·Memᴰ·head refl))
 
 -- what comes after h in a list by rising rank
 pub record After (next ys : List ℕ) (h : ℕ) : Type 0 where
@@ -68,3 +73,7 @@ chain-after {next} {h = h} (node {y = y} {ys = ys} e k) (more l r) m = ⊎-elim 
 pub falling-under : {a : ℕ} {ys : List ℕ} → Falling a ys → {z : ℕ} → List·Memᴰ z ys → z < a
 falling-under none m = absurd (List·Memᴰ·not-nil m)
 falling-under {a} (less {y = y} l r) {z} m = ⊎-elim (λ (e : z ≡ y). omega arith) (λ k. omega (arith, falling-under r k)) (List·Memᴰ·cases-cons m)
+
+pub falling-down : {a b : ℕ} {ys : List ℕ} → a ≤ b → Falling a ys → Falling b ys
+falling-down h none = none
+falling-down {b = b} h (less {y = y} l r) = let m : y < b = omega arith in less m r

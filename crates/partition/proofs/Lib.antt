@@ -10,6 +10,8 @@ pub mod Refused
 pub mod Chains
 pub mod Scan
 pub mod Turns
+pub mod Halving
+pub mod Filing
 pub mod Lightening
 pub mod Ranks
 pub mod Climbing

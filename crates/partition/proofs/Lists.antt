@@ -66,6 +66,11 @@ pub rising-over : {a : ℕ} {ys : List ℕ} → Rising a ys → {z : ℕ} → Li
 rising-over done m = absurd (List·Memᴰ·not-nil m)
 rising-over {a} (more {y = y} l r) {z} m = ⊎-elim (λ (e : z ≡ y). omega arith) (λ k. omega (arith, rising-over r k)) (List·Memᴰ·cases-cons m)
 
+-- from any number on that is not above its members
+pub rising-from : {a b : ℕ} {ys : List ℕ} → Rising a ys → ((z : ℕ) → List·Memᴰ z ys → b ≤ z) → Rising b ys
+rising-from done f = done
+rising-from (more {y = y} l r) f = more (f y (List·Memᴰ·head refl)) r
+
 pub rising-such : (t : ℕ → Bool) {a : ℕ} {ys : List ℕ} → Rising a ys → Rising a (such t ys)
 unfolding such
 rising-such t done = done

@@ -19,7 +19,7 @@ use Rattle.game.proofs.Sound.{Sound, sound-true, getD-default}
 use Rattle.game.proofs.Tables.{member-in, in-member, sum-drop, sum-zeros, sum-drop-set, sum-drop-entry}
 use Rattle.refusal.specs.Limits.{maxTotal}
 use Rattle.partition.specs.Cut.{such, childrenBelow, children, carries, trim, kept, carried, cut}
-use Rattle.partition.specs.Work.{Divisible, Chain, end, node, Falling, none, less, hanging, Brood, Lightened, holder, Cuts}
+use Rattle.partition.specs.Work.{Divisible, Chain, end, node, Falling, none, less, hanging, Loaded, Children, Lightened, holder, Cuts}
 use Rattle.partition.proofs.Lists.{test-cases, such-in, in-such, such-take, such-leave, rising-ext, stretch, sum-agree, sum-within}
 use Rattle.partition.proofs.Trimming.{carries-agree, trim-agree}
 use Rattle.partition.proofs.Carried.{entry, below-in, in-below, below-rising, children-in, in-children, children-rising, child-lower, kept-in, kept-step, cut-child, carried-size, carried-fits}
@@ -201,18 +201,13 @@ module _ {p w : List ℕ} {B : ℕ} (d : Divisible p w B) where
     known : (z : ℕ) → List·Memᴰ z (children p x) → entry now z ≡ weight z
     known z m = k .done z (child-lower s u x l z m)
 
-    pub cutting-brood : Brood x (getD w x 0) (getD now x 0) B (getD link x 0) next now link
-    cutting-brood =
+    pub cutting-loaded : Loaded x (getD w x 0) (getD now x 0) B next now link
+    cutting-loaded =
         record {
           inside = omega (arith, k .linked);
           few = omega (arith, k .linked, d .few);
           tails = k .tails ∙ sym (k .linked);
           told = k .told ∙ sym (k .linked);
-          list = fallen p x x;
-          chain = k .heads x (le-refl x) l;
-          falling = fallen-falling p x x x (le-refl x);
-          all = λ z m. let c = rw all-hang at m in in-fallen p x x (child-lower s u x l z c) (children-in p x c .1);
-          only = λ z m. let i = fallen-in p x x m in rw all-hang (in-children p x (omega arith) (i .1));
           together =
               rw all-hang
               (k .coming x (le-refl x) l ∙ fallen-total p x weight x ∙ ap (λ (ys : List ℕ). total ys weight) below-children
@@ -220,6 +215,20 @@ module _ {p w : List ℕ} {B : ℕ} (d : Divisible p w B) where
           small = omega (arith, k .small, sum-drop w x (omega (arith, d .sized)), sum-drop now x (omega (arith, k .told)));
           alone = d .light x l;
           each = λ y h. rw (k .done y h) (carried-fits s u w B (d .light) y (omega arith));
+        }
+
+    pub cutting-children : Children x (getD link x 0) next link
+    cutting-children =
+        record {
+          listed =
+              record {
+                few = omega (arith, k .tails, d .few);
+                list = fallen p x x;
+                chain = k .heads x (le-refl x) l;
+                falling = fallen-falling p x x (length next) (omega (arith, k .tails));
+              };
+          all = λ z m. let c = rw all-hang at m in in-fallen p x x (child-lower s u x l z c) (children-in p x c .1);
+          only = λ z m. let i = fallen-in p x x m in rw all-hang (in-children p x (omega arith) (i .1));
         }
 
     -- x is lightened, and carries r
@@ -289,9 +298,9 @@ module _ {p w : List ℕ} {B : ℕ} (d : Divisible p w B) where
           omega (
             arith,
             t .carries,
-            cutting-brood .together,
+            cutting-loaded .together,
             sum-within (entry now) (below-rising link′ x x) (below-rising link x x)
-                (hung-before link link′ x same (cutting-brood .inside) (λ y. ⊎-elim (λ e. inl e) (λ b. inr (b .0)) (t .moved y))),
+                (hung-before link link′ x same (cutting-loaded .inside) (λ y. ⊎-elim (λ e. inl e) (λ b. inr (b .0)) (t .moved y))),
           )
 
       higher : (y : ℕ) → x < y → getD link′ y 0 ≡ getD link y 0

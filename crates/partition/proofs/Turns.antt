@@ -17,7 +17,7 @@ use Rattle.game.specs.Game.{absent}
 use Rattle.game.proofs.Sound.{getD-default}
 use Rattle.refusal.specs.Limits.{maxVertices, maxTotal}
 use Rattle.partition.specs.Cut.{carries, without, trim}
-use Rattle.partition.specs.Work.{Chain, Rising, hanging, Family, Trimmed}
+use Rattle.partition.specs.Work.{Chain, Rising, hanging, Loaded, Candidates, Trimmed}
 use Rattle.partition.proofs.Lists.{test-cases, rising-down, rising-ext, rising-without, without-in, in-without, without-shorter, sum-without, sum-entry-in}
 use Rattle.partition.proofs.Trimming.{Heaviest, trim-cut, trim-enough}
 use Rattle.partition.proofs.Carried.{entry, below-in, in-below, below-rising}
@@ -75,7 +75,8 @@ pub record Scanning (next carried link : List ℕ) (x floor first most start h f
   pub scan : Scan (entry carried) next (hanging link x) x floor first most start h f child
   pub least : floor ≤ f
 
-module _ {x weight uncut₀ B floor first : ℕ} {next carried was : List ℕ} (k : Family x weight uncut₀ B floor first next carried was) where
+module _ {x weight uncut₀ B floor first : ℕ} {next carried was : List ℕ} (k : Loaded x weight uncut₀ B next carried was)
+    (n : Candidates x floor first next carried was) where
   low : x ≤ absent
   low = omega (arith, k .inside, k .few)
 
@@ -90,11 +91,11 @@ module _ {x weight uncut₀ B floor first : ℕ} {next carried was : List ℕ} (
         small = k .small;
         moved = λ y. inl refl;
         most-of = λ z m. k .each z (below-in was x x m .0);
-        rest = k .list;
-        chain = k .chain;
-        lower = k .lower;
-        rising = k .rising;
-        ahead = λ z m l. inl (k .all z m l);
+        rest = n .list;
+        chain = n .chain;
+        lower = n .lower;
+        rising = n .rising;
+        ahead = λ z m l. inl (n .all z m l);
       }
 
   module _ {link : List ℕ} {uncut most start : ℕ} (t : Turn x weight B floor first next carried was link uncut most start) where
@@ -113,8 +114,8 @@ module _ {x weight uncut₀ B floor first : ℕ} {next carried was : List ℕ} (
         whole : start ≡ first → (z : ℕ) → List·Memᴰ z (hanging link x) → floor < entry carried z → List·Memᴰ z (t .rest)
         whole e z m l =
             subst (λ (r : List ℕ). List·Memᴰ z r)
-            (chain-same (λ v i. omega (arith, low, k .lower v i)) (λ v i. omega (arith, low, t .lower v i)) (k .chain) (subst (λ (v : ℕ). Chain next v (t .rest)) e (t .chain)))
-            (k .all z (hung z m) l)
+            (chain-same (λ v i. omega (arith, low, n .lower v i)) (λ v i. omega (arith, low, t .lower v i)) (n .chain) (subst (λ (v : ℕ). Chain next v (t .rest)) e (t .chain)))
+            (n .all z (hung z m) l)
 
         begin : Scan (entry carried) next (hanging link x) x floor first most start 0 floor start
         begin =
@@ -144,11 +145,11 @@ module _ {x weight uncut₀ B floor first : ℕ} {next carried was : List ℕ} (
           small = t .small;
           moved = t .moved;
           most-of = t .most-of;
-          rest = k .list;
-          chain = k .chain;
-          lower = k .lower;
-          rising = k .rising;
-          ahead = λ z m l. inl (k .all z (hung z m) l);
+          rest = n .list;
+          chain = n .chain;
+          lower = n .lower;
+          rising = n .rising;
+          ahead = λ z m l. inl (n .all z (hung z m) l);
         }
 
     ends : (weight + uncut ≤ B) ⊎ ((z : ℕ) → List·Memᴰ z (hanging link x) → entry carried z ≤ floor) → Trimmed x weight B floor carried was link uncut
@@ -230,8 +231,8 @@ module _ {x weight uncut₀ B floor first : ℕ} {next carried was : List ℕ} (
       heavy : floor < entry carried h
       heavy = omega (arith, b .carries, b .over)
 
-      after : After next (k .list) h
-      after = chain-after (k .chain) (k .rising) (k .all h (hung h (b .heaviest .inside)) heavy)
+      after : After next (n .list) h
+      after = chain-after (n .chain) (n .rising) (n .all h (hung h (b .heaviest .inside)) heavy)
 
       cut-at : Turn x weight B floor first next carried was (set link h h) (uncut - f) f (getD next h 0)
       cut-at =
@@ -262,14 +263,14 @@ module _ {x weight uncut₀ B floor first : ℕ} {next carried was : List ℕ} (
                 omega (arith, b .carries, ltb-false (entry carried h) (entry carried z) (b .heaviest .unbeaten z (w .0)));
             rest = after .tail;
             chain = after .chain;
-            lower = λ z m. k .lower z (after .within z m);
+            lower = λ z m. n .lower z (after .within z m);
             rising = rising-down (omega arith) (after .rising);
             ahead =
                 λ z m g.
                 let w = without-in h (hanging link x) (rw set-hanging at m) in
                 ⊎-elim
                 (λ q. inr (omega (arith, b .carries, ltb-true (entry carried z) (entry carried h) q)))
-                (λ (q : h ≤ z). inl (after .higher z (k .all z (hung z (w .0)) g) (omega (arith, w .1))))
+                (λ (q : h ≤ z). inl (after .higher z (n .all z (hung z (w .0)) g) (omega (arith, w .1))))
                 (b .heaviest .first z (w .0));
           }
         where

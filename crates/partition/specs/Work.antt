@@ -4,14 +4,14 @@ use mathlib.Core.Path.{_≡_}
 use mathlib.Core.Logic.{_≢_, _⊎_}
 use mathlib.Core.Bool.{Bool, true, not, _&&_, cond}
 use mathlib.Core.List.{List, [], _∷_, map, List·Memᴰ}
-use Prim.Native.Nat.{ℕ, suc, _+_, _*_, _≤_, _<_}
+use Prim.Native.Nat.{ℕ, zero, suc, _+_, _-_, _*_, _/_, _≤_, _<_}
 use lib.Dec.{eqb, ltb}
-use lib.ListN.{length, getD}
+use lib.ListN.{length, getD, replicate}
 use Rattle.game.specs.Table.{tabulate, sum}
 use Rattle.game.specs.Game.{absent}
 use Rattle.game.specs.Tree.{sound}
 use Rattle.refusal.specs.Limits.{maxVertices, maxTotal}
-use Rattle.partition.specs.Cut.{childrenBelow, carries, trim, carried, cut, top}
+use Rattle.partition.specs.Cut.{such, childrenBelow, carries, trim, carried, cut, top}
 use Rattle.partition.specs.Pack.{loadsBelow, blockOf}
 use Rattle.partition.specs.Divide.{maxBlocks, Tables}
 
@@ -56,22 +56,25 @@ pub record Climbed (link tops : List ℕ) : Type 0 where
 abbrev pub hanging : List ℕ → ℕ → List ℕ
 hanging link x = childrenBelow link x x
 
--- What trimming x is given: a linked list by rising rank with all of its children that carry more than `floor`, and what those that
--- hang on x carry together. The weight of x alone fits, and so does what any lower rank carries.
-pub record Family (x weight uncut B floor first : ℕ) (next carried link : List ℕ) : Type 0 where
+-- What x carries before it is trimmed: its own weight, and `uncut`, which the children that hang on x carry together. The weight of x
+-- alone fits, and so does what any lower rank carries.
+pub record Loaded (x weight uncut B : ℕ) (next carried link : List ℕ) : Type 0 where
   pub inside : x < length link
   pub few : length link ≤ maxVertices
   pub tails : length next ≡ length link
   pub told : length carried ≡ length link
+  pub together : uncut ≡ sum (map (λ (y : ℕ). getD carried y 0) (hanging link x))
+  pub small : weight + uncut ≤ maxTotal
+  pub alone : weight ≤ B
+  pub each : (y : ℕ) → y < x → getD carried y 0 ≤ B
+
+-- a linked list by rising rank, which has all children of x that carry more than `floor`
+pub record Candidates (x floor first : ℕ) (next carried link : List ℕ) : Type 0 where
   pub list : List ℕ
   pub chain : Chain next first list
   pub rising : Rising 0 list
   pub lower : (z : ℕ) → List·Memᴰ z list → z < x
   pub all : (z : ℕ) → List·Memᴰ z (hanging link x) → floor < getD carried z 0 → List·Memᴰ z list
-  pub together : uncut ≡ sum (map (λ (y : ℕ). getD carried y 0) (hanging link x))
-  pub small : weight + uncut ≤ maxTotal
-  pub alone : weight ≤ B
-  pub each : (y : ℕ) → y < x → getD carried y 0 ≤ B
 
 -- What trimming x leaves: some children that carry more than `floor` hang on themselves, those that had to be cut first. What the
 -- others carry together is r; it fits, or there is no heavier child left.
@@ -82,21 +85,63 @@ pub record Trimmed (x weight B floor : ℕ) (carried was link : List ℕ) (r : �
   pub moved : (y : ℕ) → (getD link y 0 ≡ getD was y 0) ⊎ (List·Memᴰ y (hanging was x) × (floor < getD carried y 0) × (getD link y 0 ≡ y))
   pub ended : (weight + r ≤ B) ⊎ ((z : ℕ) → List·Memᴰ z (hanging link x) → getD carried z 0 ≤ floor)
 
--- What lightening x is given: its children, which all hang on it yet, as a linked list by falling rank.
-pub record Brood (x weight uncut B first : ℕ) (next carried link : List ℕ) : Type 0 where
-  pub inside : x < length link
-  pub few : length link ≤ maxVertices
-  pub tails : length next ≡ length link
-  pub told : length carried ≡ length link
+-- a linked list by falling rank
+pub record Listed (first : ℕ) (next : List ℕ) : Type 0 where
+  pub few : length next ≤ maxVertices
   pub list : List ℕ
   pub chain : Chain next first list
-  pub falling : Falling x list
-  pub all : (z : ℕ) → List·Memᴰ z (hanging link x) → List·Memᴰ z list
-  pub only : (z : ℕ) → List·Memᴰ z list → List·Memᴰ z (hanging link x)
-  pub together : uncut ≡ sum (map (λ (y : ℕ). getD carried y 0) (hanging link x))
-  pub small : weight + uncut ≤ maxTotal
-  pub alone : weight ≤ B
-  pub each : (y : ℕ) → y < x → getD carried y 0 ≤ B
+  pub falling : Falling (length next) list
+
+-- the children of x, which all hang on it yet, as a linked list by falling rank
+pub record Children (x first : ℕ) (next link : List ℕ) : Type 0 where
+  pub listed : Listed first next
+  pub all : (z : ℕ) → List·Memᴰ z (hanging link x) → List·Memᴰ z (listed .list)
+  pub only : (z : ℕ) → List·Memᴰ z (listed .list) → List·Memᴰ z (hanging link x)
+
+-- The class of a weight: the weight itself below 64; from there on it has 32 classes more than its half. It is halved 26 times at most,
+-- which takes any 32-bit number below 64.
+unfoldable pub classBy : ℕ → ℕ → ℕ
+classBy zero v = v
+classBy (suc s) v = let half : ℕ = classBy s (v / 2) in cond (ltb v 64) v (32 + half)
+
+-- the least weight of a class
+unfoldable pub leastBy : ℕ → ℕ → ℕ
+leastBy zero c = c
+leastBy (suc s) c = let half : ℕ = leastBy s (c - 32) in cond (ltb c 64) c (2 * half)
+
+unfoldable pub leastOf : ℕ → ℕ
+unfolding leastBy
+leastOf c = leastBy 26 c
+
+-- the class of v, where there is none above `last`
+unfoldable pub classOf : ℕ → ℕ → ℕ
+unfolding classBy
+classOf last v = let c : ℕ = classBy 26 v in cond (ltb last c) last c
+
+-- the most that a weight of a lower class is
+unfoldable pub floorOf : ℕ → ℕ
+unfolding leastOf
+floorOf c = leastOf c - 1
+
+-- more than any class of a 32-bit number
+abbrev pub maxClasses : ℕ
+maxClasses = 896
+
+-- the heads of empty lists, one for each class
+pub record Unfiled (heads : List ℕ) : Type 0 where
+  pub some : 0 < length heads
+  pub few : length heads ≤ maxClasses
+  pub empty : heads ≡ replicate (length heads) absent
+
+-- What filing leaves of a linked list: its ranks by rising rank, each in the list of its class. The links of others are as they were.
+pub record Filed (first : ℕ) (carried was next heads : List ℕ) : Type 0 where
+  pub listed : Listed first was
+  pub ranks : List ℕ
+  pub rising : Rising 0 ranks
+  pub all : (z : ℕ) → List·Memᴰ z (listed .list) → List·Memᴰ z ranks
+  pub only : (z : ℕ) → List·Memᴰ z ranks → List·Memᴰ z (listed .list)
+  pub chains : (c : ℕ) → c < length heads → Chain next (getD heads c 0) (such (λ (y : ℕ). eqb (classOf (length heads - 1) (getD carried y 0)) c) ranks)
+  pub others : (y : ℕ) → (List·Memᴰ y (listed .list) → ⊥) → getD next y 0 ≡ getD was y 0
 
 -- What lightening x leaves: those hang on it that it keeps, the others of its children on themselves; r is what it carries. The lists
 -- of other vertices are as they were.

@@ -1,4 +1,8 @@
 // Cutting: each vertex, by rising rank, keeps of its children what it can carry.
+use crate::classes::CLASSES;
+use crate::classes::class_of;
+use crate::classes::file;
+use crate::classes::floor_of;
 use crate::index::wide;
 use net::Forest;
 ghost use mathlib.Core.Path.{_≡_};
@@ -8,11 +12,10 @@ ghost use lib.Dec.{eqb};
 ghost use lib.ListN.{length, replicate};
 ghost use Rattle.game.specs.Game.{absent};
 ghost use Rattle.game.specs.Net.{net};
-ghost use Rattle.partition.specs.Work.{Divisible, Family, Trimmed, Brood, Lightened, Cuts};
+ghost use Rattle.partition.specs.Work.{Divisible, Loaded, Candidates, Trimmed, Listed, Children, Unfiled, Lightened, Cuts};
 
-// Children that carry more than this are scanned apart from the others. They are few, since a net's total is bounded, and the others
-// carry few different weights: so no net makes the scans long, however its weights are spread.
-const FLOOR: u32 = 256;
+// A list of up to so many children is scanned as a whole: to file them by class would take longer.
+const SHORT: usize = 32;
 
 // What a child carries if it still hangs on x, else 0.
 fn weight_on(x: u32, link: u32, carried: u32) -> u32
@@ -35,7 +38,8 @@ fn trim(
     carried: &[u32],
     link: &mut [u32],
 ) -> u32
-    requires { ⌜ Family x weight uncut limit floor first (now next) (now carried) (now link) ⌝ }
+    requires { ⌜ Loaded x weight uncut limit (now next) (now carried) (now link) ⌝ }
+    requires { ⌜ Candidates x floor first (now next) (now carried) (now link) ⌝ }
     ensures { λ r. ⌜ Trimmed x weight limit floor (now (carried .entry)) (now (link .entry)) (now (link .exit)) r ⌝ }
 {
     let mut uncut = uncut;
@@ -75,8 +79,60 @@ fn trim(
     uncut
 }
 
+// Whether a linked list of children is short.
+fn is_short(first: u32, next: &[u32]) -> bool
+    requires { ⌜ Listed first (now next) ⌝ }
+{
+    let mut child = first;
+    let mut count = 0;
+    while child != Forest::ABSENT && count < SHORT {
+        child = next[wide(child)];
+        count += 1;
+    }
+    child == Forest::ABSENT
+}
+
+// Cuts children of x class by class, from the heaviest class down, until what x carries fits, and says what that is.
+fn lighten_by_class(
+    x: u32,
+    weight: u32,
+    uncut: u32,
+    limit: u32,
+    first: u32,
+    carried: &[u32],
+    link: &mut [u32],
+    next: &mut [u32],
+    heads: &mut [u32],
+) -> u32
+    requires { ⌜ Loaded x weight uncut limit (now next) (now carried) (now link) ⌝ }
+    requires { ⌜ Children x first (now next) (now link) ⌝ }
+    requires { ⌜ Unfiled (now heads) ⌝ }
+    ensures { λ r. ⌜ Lightened x weight limit (now (carried .entry)) (now (link .entry)) (now (link .exit)) (now (next .entry)) (now (next .exit)) r ⌝ }
+{
+    file(first, carried, next, heads);
+    let mut class = class_of(limit, heads.len() - 1) + 1;
+    let mut left = uncut;
+    while 0 < class && limit < weight + left {
+        class -= 1;
+        if heads[class] != Forest::ABSENT {
+            left = trim(
+                x,
+                weight,
+                left,
+                limit,
+                floor_of(class),
+                heads[class],
+                next,
+                carried,
+                link,
+            );
+        }
+    }
+    weight + left
+}
+
 // Cuts children of x, the heaviest first, until what x carries fits, and says what that is. The children stand in a linked list by
-// falling rank; to be scanned they are put into two by rising rank.
+// falling rank.
 fn lighten(
     x: u32,
     weight: u32,
@@ -87,32 +143,39 @@ fn lighten(
     link: &mut [u32],
     next: &mut [u32],
 ) -> u32
-    requires { ⌜ Brood x weight uncut limit first (now next) (now carried) (now link) ⌝ }
+    requires { ⌜ Loaded x weight uncut limit (now next) (now carried) (now link) ⌝ }
+    requires { ⌜ Children x first (now next) (now link) ⌝ }
     ensures { λ r. ⌜ Lightened x weight limit (now (carried .entry)) (now (link .entry)) (now (link .exit)) (now (next .entry)) (now (next .exit)) r ⌝ }
 {
     if weight + uncut <= limit {
         return weight + uncut;
     }
-    let mut heavy = Forest::ABSENT;
-    let mut light = Forest::ABSENT;
-    let mut child = first;
-    while child != Forest::ABSENT {
-        let at = wide(child);
-        let after = next[at];
-        if FLOOR < carried[at] {
-            next[at] = heavy;
-            heavy = child;
-        } else {
-            next[at] = light;
-            light = child;
-        }
-        child = after;
+    if is_short(first, next) {
+        let mut head = [Forest::ABSENT; 1];
+        return lighten_by_class(
+            x,
+            weight,
+            uncut,
+            limit,
+            first,
+            carried,
+            link,
+            next,
+            &mut head,
+        );
     }
-    let left = trim(x, weight, uncut, limit, FLOOR, heavy, next, carried, link);
-    if weight + left <= limit {
-        return weight + left;
-    }
-    weight + trim(x, weight, left, limit, 0, light, next, carried, link)
+    let mut heads = [Forest::ABSENT; CLASSES];
+    lighten_by_class(
+        x,
+        weight,
+        uncut,
+        limit,
+        first,
+        carried,
+        link,
+        next,
+        &mut heads,
+    )
 }
 
 // Cuts the forest, going up the ranks. At first link holds ABSENT and carried 0. On the way, for a vertex that is not reached yet,

@@ -1,5 +1,6 @@
 // Divides a forest: cuts it into groups of bounded weight and packs the groups into blocks.
 // The cutting rests only on the parent and the weight of each vertex.
+mod classes;
 mod cutting;
 mod dividing;
 mod grouping;

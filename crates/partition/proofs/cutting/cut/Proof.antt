@@ -4,7 +4,7 @@ use mathlib.Core.Logic.{⊎-elim}
 use Prim.Native.Nat.{_-_}
 use lib.ListN.{length, length-set, length-replicate}
 use borrow.Author.Needs.{needs}
-use Rattle.partition.proofs.Ranks.{Cutting, cutting-begin, cutting-done, cutting-brood, step-root, step-child, hand-inside, hand-fits}
+use Rattle.partition.proofs.Ranks.{Cutting, cutting-begin, cutting-done, cutting-loaded, cutting-children, step-root, step-child, hand-inside, hand-fits}
 use Rattle.partition.proofs.cutting.cut.Statement.{statement}
 use Rattle.partition.proofs.cutting.cut.Tie as tie
 
@@ -40,7 +40,7 @@ slice-read-lighten-2 : tie.Need-slice-read-lighten-2 Inv-loop μ-loop
 slice-read-lighten-2 c = search needs
 
 lighten-requires : tie.Need-lighten-requires Inv-loop μ-loop
-lighten-requires c κs = cutting-brood (c .before .before .before .before .before .before .before .before .before .before .before .before .before .pre .0) (c .before .before .before .before .before .before .before .loop .inv) (c .before .before .before .before .before .before .loop-test .taken)
+lighten-requires c κs = (cutting-loaded (c .before .before .before .before .before .before .before .before .before .before .before .before .before .pre .0) (c .before .before .before .before .before .before .before .loop .inv) (c .before .before .before .before .before .before .loop-test .taken), cutting-children (c .before .before .before .before .before .before .before .before .before .before .before .before .before .pre .0) (c .before .before .before .before .before .before .before .loop .inv) (c .before .before .before .before .before .before .loop-test .taken))
 
 mul-carried : tie.Need-mul-carried Inv-loop μ-loop
 mul-carried c = search needs
