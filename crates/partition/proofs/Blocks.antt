@@ -4,7 +4,7 @@ use mathlib.Core.Path.{_≡_, refl, sym, ap, _∙_}
 use mathlib.Core.Logic.{_≢_, by-cases}
 use mathlib.Core.Bool.{Bool}
 use mathlib.Core.List.{List}
-use Prim.Native.Nat.{ℕ, suc, _+_, _%_, _≤_, _<_}
+use Prim.Native.Nat.{ℕ, suc, _+_, _≤_, _<_}
 use native.Mathlib.Numerals.{add-one}
 use native.Mathlib.Decide.{ℕ-discrete, decLt}
 use native.Mathlib.Omega.{arith}
@@ -17,10 +17,9 @@ use Rattle.game.proofs.Tables.{sum-entry, tabulate-unique}
 use Rattle.refusal.specs.Limits.{maxTotal}
 use Rattle.partition.specs.Pack.{lightest, put, loadsBelow, blockOf}
 use Rattle.partition.specs.Divide.{maxBlocks}
-use Rattle.partition.specs.Work.{Tournament, Packable, Packed, Topped, Assigned}
+use Rattle.partition.specs.Work.{Packable, Packed, Topped, Assigned}
 use Rattle.partition.proofs.Sums.{only, total-more}
 use Rattle.partition.proofs.Carried.{entry}
-use Rattle.partition.proofs.Winners.{winner-lightest}
 use Rattle.partition.proofs.BlockLoads.{pack-none, pack-on, pack-pass, loads-length, loads-sum, block-inside, put-here}
 
 -- who is a top, by the table of tops
@@ -54,16 +53,12 @@ module _ {tops carried block₀ loads₀ : List ℕ} (g : Packable tops carried 
     pub packs-few : length loads ≤ maxBlocks
     packs-few = omega (arith, packs-length, g .few)
 
-    -- the winner is the lightest block
-    pub packs-winner : {nodes : List ℕ} → Tournament loads nodes → {r : ℕ} → r ≡ getD nodes 1 0 % 1_024 → r ≡ lightest loads
-    packs-winner n e = winner-lightest n packs-some packs-few e
-
     -- all groups are packed
     pub packs-all : length tops ≤ x → Packed tops carried block loads
     packs-all h =
         let e : x ≡ length tops = omega (arith, t .within) in
         record {
-          table = t .table ∙ ap (loadsBelow (topIn tops) (entry carried) (length loads₀)) e ∙ ap (λ (k : ℕ). loadsBelow (topIn tops) (entry carried) k (length tops)) (sym packs-length);
+          all = record { table = t .table ∙ ap (loadsBelow (topIn tops) (entry carried) (length loads₀)) e ∙ ap (λ (k : ℕ). loadsBelow (topIn tops) (entry carried) k (length tops)) (sym packs-length) };
           each = λ y l q. rw packs-length (t .each y (omega arith) q);
         }
 
@@ -164,7 +159,7 @@ pub spread-assigned : {tops carried block block′ loads : List ℕ} → Topped 
     → ((x : ℕ) → x < length tops → getD block′ x 0 ≡ getD block (getD tops x 0) 0) → Assigned tops carried block′ loads
 spread-assigned {tops} {carried} {block} {block′} {loads} g a e b =
     record {
-      table = a .table;
+      all = a .all;
       blocks =
           tabulate-unique (length tops) (λ y. blockOf (topIn tops) (entry carried) (length loads) (getD tops y 0)) block′ 0 e
           (λ x l. b x l ∙ a .each (getD tops x 0) (g .inside x l) (g .own x l));

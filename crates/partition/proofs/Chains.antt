@@ -2,7 +2,7 @@
 -- Assumes nothing.
 use mathlib.Core.Path.{_≡_, refl, sym, ap₂, subst, _∙_}
 use mathlib.Core.Logic.{_≢_, ⊎-elim}
-use mathlib.Core.List.{List, _∷_, List·Memᴰ, List·Memᴰ·head, List·Memᴰ·tail, List·Memᴰ·not-nil, List·Memᴰ·cases-cons}
+use mathlib.Core.List.{List, [], _∷_, List·Memᴰ, List·Memᴰ·head, List·Memᴰ·tail, List·Memᴰ·not-nil, List·Memᴰ·cases-cons}
 use Prim.Native.Nat.{ℕ, suc, _≤_, _<_}
 use native.Mathlib.Omega.{arith}
 use lib.ListN.{getD, set}
@@ -34,9 +34,9 @@ chain-same {next} f g (node {y = y} {ys = ys} e k) (node {y = z} {ys = zs} q n) 
     (chain-same (λ v m. f v (List·Memᴰ·tail m)) (λ v m. g v (List·Memᴰ·tail m)) k (subst (λ (v : ℕ). Chain next (getD next v 0) zs) (sym s) n))
 
 -- from no head there is nothing
-pub chain-end : {next ys : List ℕ} {h z : ℕ} → h ≡ absent → ((v : ℕ) → List·Memᴰ v ys → v < absent) → Chain next h ys → List·Memᴰ z ys → ⊥
-chain-end e f (end q) m = List·Memᴰ·not-nil m
-chain-end e f (node {y = y} q n) m = omega (arith, e, q, f y (List·Memᴰ·head refl))
+pub chain-none : {next ys : List ℕ} {h : ℕ} → h ≡ absent → ((v : ℕ) → List·Memᴰ v ys → v < absent) → Chain next h ys → ys ≡ []
+chain-none e f (end q) = refl
+chain-none e f (node {y = y} q n) = absurd (omega (arith, e, q, f y (List·Memᴰ·head refl)))
 
 -- what comes after h in a list by rising rank
 pub record After (next ys : List ℕ) (h : ℕ) : Type 0 where

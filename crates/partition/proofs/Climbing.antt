@@ -14,7 +14,7 @@ use Rattle.game.specs.Game.{absent}
 use Rattle.game.proofs.Sound.{Sound}
 use Rattle.game.proofs.Tables.{tabulate-unique}
 use Rattle.partition.specs.Cut.{top}
-use Rattle.partition.specs.Work.{Hanging, Climbed, holder}
+use Rattle.partition.specs.Work.{Hanging, Tops, holder}
 use Rattle.partition.proofs.Lists.{test-cases}
 use Rattle.partition.proofs.Ranks.{holder-up, holder-cut, holder-root}
 use Rattle.partition.proofs.Groups.{parent-higher, top-root, top-cut, top-up}
@@ -37,7 +37,7 @@ climbing-none was =
       climbs = λ y h l d. absurd (omega arith);
     }
 
-pub climbing-all : {was link : List ℕ} {x : ℕ} → Climbing was link x → x ≤ 0 → Climbed was link
+pub climbing-all : {was link : List ℕ} {x : ℕ} → Climbing was link x → x ≤ 0 → Tops was link
 climbing-all k h = record { stays = λ y l e. k .stays y (omega arith) l e; climbs = λ y l d. k .climbs y (omega arith) l d }
 
 -- one rank more, which hangs on a
@@ -112,12 +112,12 @@ module _ {p : List ℕ} (s : Sound p) (u : length p ≤ absent) (cuts : ℕ → 
             way x h (λ f t. (omega (arith, f), omega (arith, f, l))) (λ a b t. (omega (arith, a), omega (arith, b, e)));
       }
 
-  tops-from : {tops : List ℕ} → Climbed link tops → (k x : ℕ) → length p ≤ x + k → x < length p → getD tops x 0 ≡ top p cuts x
+  tops-from : {tops : List ℕ} → Tops link tops → (k x : ℕ) → length p ≤ x + k → x < length p → getD tops x 0 ≡ top p cuts x
   tops-from c zero x h l = absurd (omega arith)
   tops-from c (suc k) x h l =
       way x l
       (λ f t. c .stays x (omega (arith, e)) f ∙ sym t)
       (λ a b t. c .climbs x (omega (arith, e)) (λ (f : getD link x 0 ≡ x). omega (arith, f, a)) ∙ tops-from c k (getD link x 0) (omega (arith, a)) b ∙ sym t)
 
-  pub climbed-tops : {tops : List ℕ} → Climbed link tops → length tops ≡ length link → tops ≡ tabulate (length p) (top p cuts)
+  pub climbed-tops : {tops : List ℕ} → Tops link tops → length tops ≡ length link → tops ≡ tabulate (length p) (top p cuts)
   climbed-tops {tops} c f = tabulate-unique (length p) (top p cuts) tops 0 (f ∙ e) (λ x l. tops-from c (length p) x (omega arith) l)

@@ -14,7 +14,7 @@ use Rattle.partition.specs.Cut.{carried, cut, top, isTop}
 use Rattle.partition.specs.Pack.{loadsBelow, blockOf}
 use Rattle.game.specs.Net.{net}
 use Rattle.partition.specs.Divide.{tables, divided, maxBlocks}
-use Rattle.partition.specs.Work.{Divisible, Cuts, Hanging, Climbed, Grouped, Packable, Topped, Assigned}
+use Rattle.partition.specs.Work.{Divisible, Cuts, Hanging, Tops, Grouped, Packable, Topped, Assigned}
 use Rattle.partition.proofs.Lists.{stretch, stretch-in, sum-agree}
 use Rattle.partition.proofs.Sums.{only, total}
 use Rattle.partition.proofs.Carried.{entry, carried-size, greedy-carrying}
@@ -33,7 +33,7 @@ module _ {p w : List ℕ} {B : ℕ} (d : Divisible p w B) where
     pub cuts-hanging : Hanging link
     cuts-hanging = hanging-up s u (cut p w B) link e (c .held)
 
-    pub cuts-grouped : {tops : List ℕ} → Climbed link tops → length tops ≡ length link → Grouped p w B now tops
+    pub cuts-grouped : {tops : List ℕ} → Tops link tops → length tops ≡ length link → Grouped p w B now tops
     cuts-grouped t f = record { weights = c .table; table = climbed-tops s u (cut p w B) link e (c .held) t f }
 
   module _ {now tops : List ℕ} (c : Grouped p w B now tops) where
@@ -89,4 +89,4 @@ module _ {p w : List ℕ} {B : ℕ} (d : Divisible p w B) where
         blocks = a .blocks ∙ (λ i. tabulate (tops-size i) (λ x. blockOf (topIn (c .table i)) (entry (c .weights i)) (h i) (getD (c .table i) x 0)))
 
         sums : loads ≡ loadsBelow (topIn new) (entry (carried p w B)) k (length p)
-        sums = a .table ∙ (λ i. loadsBelow (topIn (c .table i)) (entry (c .weights i)) (h i) (tops-size i))
+        sums = a .all .table ∙ (λ i. loadsBelow (topIn (c .table i)) (entry (c .weights i)) (h i) (tops-size i))

@@ -2,32 +2,29 @@
 -- Assumes nothing.
 use mathlib.Core.Path.{_≡_, refl, sym, ap, subst, _∙_}
 use mathlib.Core.Logic.{_≢_, _⊎_, inl, inr, ⊎-elim, by-cases}
-use mathlib.Core.List.{List, [], _∷_, map, List·Memᴰ, List·Memᴰ·head}
+use mathlib.Core.List.{List, [], _∷_, List·Memᴰ, List·Memᴰ·head, List·Memᴰ·not-nil}
 use Prim.Native.Nat.{ℕ, _+_, _-_, _≤_, _<_}
 use native.Mathlib.Decide.{ℕ-discrete, decLt}
 use native.Mathlib.Omega.{arith}
 use lib.ListN.{length, getD}
 use borrow.Author.Tests.{eq-eqb, eqb-true}
-use Rattle.game.specs.Table.{sum}
 use Rattle.game.specs.Game.{absent}
 use Rattle.refusal.specs.Limits.{maxTotal}
-use Rattle.partition.specs.Cut.{such, carries, trim}
-use Rattle.partition.specs.Work.{Chain, end, node, hanging, classOf, leastOf, floorOf, Loaded, Candidates, Trimmed, Listed, Children, Filed, Lightened}
+use Rattle.partition.specs.Cut.{such, carries}
+use Rattle.partition.specs.Work.{Chain, end, node, hanging, classOf, leastOf, floorOf, Loaded, Candidates, Due, Trimmed, Listed, Children, classIn, Filed, Lightened}
 use Rattle.partition.proofs.Lists.{such-in, in-such, rising-such, sum-nought, sum-within, sum-entry-in}
 use Rattle.partition.proofs.Trimming.{trim-done}
 use Rattle.partition.proofs.Carried.{entry, below-in, below-rising}
-use Rattle.partition.proofs.Chains.{chain-same, chain-end, falling-under}
+use Rattle.partition.proofs.Chains.{chain-same, chain-none, falling-under}
 use Rattle.partition.proofs.Halving.{class-within, class-least, class-floor, floor-class, class-mono, floor-none}
 use Rattle.partition.proofs.Filing.{ofClass}
-use Rattle.partition.proofs.Turns.{hung-before}
+use Rattle.partition.proofs.Turns.{released-none, released-hung}
 
 -- Where the trimming stands: what is left fits, or only children of classes below `class` still hang on x; it was right to cut the others.
 pub record Lighter (x weight B last : ℕ) (carried was link : List ℕ) (class left : ℕ) : Type 0 where
   pub size : length link ≡ length was
   pub within : class ≤ last + 1
-  pub same : trim (length (hanging link x)) (entry carried) B weight (hanging link x) ≡ trim (length (hanging was x)) (entry carried) B weight (hanging was x)
-  pub together : left ≡ sum (map (entry carried) (hanging link x))
-  pub moved : (y : ℕ) → (getD link y 0 ≡ getD was y 0) ⊎ (List·Memᴰ y (hanging was x) × (getD link y 0 ≡ y))
+  pub cuts : Due x weight B 0 carried was link left
   pub lower : (weight + left ≤ B) ⊎ ((z : ℕ) → List·Memᴰ z (hanging link x) → classOf last (entry carried z) < class)
 
 module _ {x weight uncut B : ℕ} {was carried link₀ : List ℕ} (b : Loaded x weight uncut B was carried link₀) where
@@ -38,7 +35,7 @@ module _ {x weight uncut B : ℕ} {was carried link₀ : List ℕ} (b : Loaded x
       record {
         kept = sym (trim-done (entry carried) B weight (length (hanging link₀ x)) (hanging link₀ x) (omega (arith, b .together)));
         carries = ap (λ (s : ℕ). weight + s) (b .together);
-        moved = λ y. inl refl;
+        moved = released-none;
         others = λ y f. refl;
       }
 
@@ -48,14 +45,12 @@ module _ {x weight uncut B : ℕ} {was carried link₀ : List ℕ} (b : Loaded x
       record {
         size = refl;
         within = omega (arith, class-within last B);
-        same = refl;
-        together = b .together;
-        moved = λ y. inl refl;
+        cuts = record { same = refl; together = b .together; moved = released-none };
         lower = inr (λ z m. omega (arith, class-mono last (entry carried z) B (b .each z (below-in link₀ x x m .0))));
       }
 
   -- the children, filed into lists by class
-  module _ {first : ℕ} {next heads : List ℕ} (n : Children x first was link₀) (f : Filed first carried was next heads) where
+  module _ {first : ℕ} {next heads : List ℕ} (n : Children x first was link₀) (f : Filed (classIn heads carried) [] first was next heads) where
     abbrev last : ℕ
     last = length heads - 1
 
@@ -69,7 +64,7 @@ module _ {x weight uncut B : ℕ} {was carried link₀ : List ℕ} (b : Loaded x
         below l v i = omega (arith, l .few, falling-under (l .falling) i)
 
     ranks-of : (z : ℕ) → List·Memᴰ z (hanging link₀ x) → List·Memᴰ z (f .ranks)
-    ranks-of z m = f .all z (subst (λ (r : List ℕ). List·Memᴰ z r) one (n .all z m))
+    ranks-of z m = ⊎-elim (λ i. absurd (List·Memᴰ·not-nil i)) (λ i. i) (f .all z (subst (λ (r : List ℕ). List·Memᴰ z r) one (n .all z m)))
 
     hangs : (z : ℕ) → List·Memᴰ z (f .listed .list) → List·Memᴰ z (hanging link₀ x)
     hangs z m = n .only z (subst (λ (r : List ℕ). List·Memᴰ z r) (sym one) m)
@@ -86,11 +81,11 @@ module _ {x weight uncut B : ℕ} {was carried link₀ : List ℕ} (b : Loaded x
 
     module _ {class left : ℕ} {link : List ℕ} (k : Lighter x weight B last carried link₀ link class left) where
       hung : (z : ℕ) → List·Memᴰ z (hanging link x) → List·Memᴰ z (hanging link₀ x)
-      hung = hung-before link₀ link x (k .size) (b .inside) (λ y. ⊎-elim (λ e. inl e) (λ m. inr (m .0)) (k .moved y))
+      hung = released-hung (k .cuts .moved) (k .size) (b .inside)
 
       pub lighter-small : weight + left ≤ maxTotal
       lighter-small =
-          omega (arith, b .small, b .together, k .together, sum-within (entry carried) (below-rising link x x) (below-rising link₀ x x) hung)
+          omega (arith, b .small, b .together, k .cuts .together, sum-within (entry carried) (below-rising link x x) (below-rising link₀ x x) hung)
 
       pub lighter-loaded : length next ≡ length was → Loaded x weight left B next carried link
       lighter-loaded s =
@@ -99,7 +94,7 @@ module _ {x weight uncut B : ℕ} {was carried link₀ : List ℕ} (b : Loaded x
             few = omega (arith, k .size, b .few);
             tails = s ∙ b .tails ∙ sym (k .size);
             told = b .told ∙ sym (k .size);
-            together = k .together;
+            together = k .cuts .together;
             small = lighter-small;
             alone = b .alone;
             each = b .each;
@@ -122,15 +117,13 @@ module _ {x weight uncut B : ℕ} {was carried link₀ : List ℕ} (b : Loaded x
             record {
               size = k .size;
               within = omega (arith, k .within);
-              same = k .same;
-              together = k .together;
-              moved = k .moved;
+              cuts = k .cuts;
               lower =
                   inr
                   (λ z m.
                   by-cases (decLt (classed z) c) (λ g. g)
                   (λ (g : classed z < c → ⊥).
-                  absurd (chain-end q (λ v i. omega (arith, b .inside, b .few, of-lower c v i)) (f .chains c inside) (listed z m l (omega arith)))));
+                  absurd (List·Memᴰ·not-nil (rw (chain-none q (λ v i. omega (arith, b .inside, b .few, of-lower c v i)) (f .chains c inside)) at (listed z m l (omega arith))))));
             }
 
         -- or is to be trimmed
@@ -168,14 +161,20 @@ module _ {x weight uncut B : ℕ} {was carried link₀ : List ℕ} (b : Loaded x
             record {
               size = s ∙ k .size;
               within = omega (arith, k .within);
-              same = t .same ∙ k .same;
-              together = t .together;
-              moved =
-                  λ y.
-                  ⊎-elim
-                  (λ q. ⊎-elim (λ p. inl (q ∙ p)) (λ m. inr (m .0, q ∙ m .1)) (k .moved y))
-                  (λ m. inr (hung y (m .0), m .2))
-                  (t .moved y);
+              cuts =
+                  record {
+                    same = t .cuts .same ∙ k .cuts .same;
+                    together = t .cuts .together;
+                    moved =
+                        record {
+                          each =
+                              λ y.
+                              ⊎-elim
+                              (λ q. ⊎-elim (λ p. inl (q ∙ p)) (λ m. inr (m .0, m .1, q ∙ m .2)) (k .cuts .moved .each y))
+                              (λ m. inr (hung y (m .0), omega (arith, m .1), m .2))
+                              (t .cuts .moved .each y);
+                        };
+                  };
               lower =
                   ⊎-elim (λ g. inl g)
                   (λ g.
@@ -185,7 +184,7 @@ module _ {x weight uncut B : ℕ} {was carried link₀ : List ℕ} (b : Loaded x
                   (omega (
                     arith,
                     b .alone,
-                    t .together,
+                    t .cuts .together,
                     sum-nought (entry carried) (hanging link′ x) (λ z m. omega (arith, g z m, u, ap floorOf q, floor-none)),
                   )))
                   (λ (q : c ≢ 0). inr (λ z m. floor-class last (entry carried z) c (omega arith) (omega (arith, u, g z m)))))
@@ -197,7 +196,7 @@ module _ {x weight uncut B : ℕ} {was carried link₀ : List ℕ} (b : Loaded x
       lighter-fits o =
           ⊎-elim
           (λ (q : class ≡ 0).
-          ⊎-elim (λ g. g) (λ g. omega (arith, b .alone, k .together, sum-nought (entry carried) (hanging link x) (λ z m. absurd (omega (arith, g z m, q))))) (k .lower))
+          ⊎-elim (λ g. g) (λ g. omega (arith, b .alone, k .cuts .together, sum-nought (entry carried) (hanging link x) (λ z m. absurd (omega (arith, g z m, q))))) (k .lower))
           (λ g. g)
           o
 
@@ -205,8 +204,8 @@ module _ {x weight uncut B : ℕ} {was carried link₀ : List ℕ} (b : Loaded x
       unfolding carries
       lightened o =
           record {
-            kept = sym (trim-done (entry carried) B weight (length (hanging link x)) (hanging link x) (omega (arith, k .together, lighter-fits o))) ∙ k .same;
-            carries = ap (λ (s : ℕ). weight + s) (k .together);
-            moved = k .moved;
+            kept = sym (trim-done (entry carried) B weight (length (hanging link x)) (hanging link x) (omega (arith, k .cuts .together, lighter-fits o))) ∙ k .cuts .same;
+            carries = ap (λ (s : ℕ). weight + s) (k .cuts .together);
+            moved = k .cuts .moved;
             others = λ y g. f .others y (λ m. g (hangs y m));
           }

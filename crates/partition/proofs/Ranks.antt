@@ -1,7 +1,7 @@
 -- Going up the ranks: at each, its children are trimmed, and what it then carries is handed to its parent.
 -- Assumes nothing.
 use mathlib.Core.Path.{_≡_, refl, sym, ap, _∙_}
-use mathlib.Core.Logic.{_≢_, inl, inr, ⊎-elim, by-cases}
+use mathlib.Core.Logic.{_≢_, ⊎-elim, by-cases}
 use mathlib.Core.Bool.{Bool, true, false, not, _&&_, true≢false}
 use mathlib.Core.List.{List, [], _∷_, List·Memᴰ, List·Memᴰ·head, List·Memᴰ·tail, List·Memᴰ·not-nil, List·Memᴰ·cases-cons}
 use Prim.Native.Nat.{ℕ, zero, suc, _+_, _≤_, _<_}
@@ -24,7 +24,7 @@ use Rattle.partition.proofs.Lists.{test-cases, such-in, in-such, such-t
 use Rattle.partition.proofs.Trimming.{carries-agree, trim-agree}
 use Rattle.partition.proofs.Carried.{entry, below-in, in-below, below-rising, children-in, in-children, children-rising, child-lower, kept-in, kept-step, cut-child, carried-size, carried-fits}
 use Rattle.partition.proofs.Chains.{chain-agree, chain-set}
-use Rattle.partition.proofs.Turns.{hung-before}
+use Rattle.partition.proofs.Turns.{released-hung}
 use Rattle.partition.proofs.Sums.{only, total, total-such, total-grown}
 
 -- the ranks below m, the highest first
@@ -250,7 +250,7 @@ module _ {p w : List ℕ} {B : ℕ} (d : Divisible p w B) where
 
       -- what was handed on by others is left alone
       unmoved : (y : ℕ) → (List·Memᴰ y (children p x) → ⊥) → getD link′ y 0 ≡ getD link y 0
-      unmoved y f = ⊎-elim (λ e. e) (λ b. absurd (f (rw all-hang at (b .0)))) (t .moved y)
+      unmoved y f = ⊎-elim (λ e. e) (λ b. absurd (f (rw all-hang at (b .0)))) (t .moved .each y)
 
       -- each rank below x hangs where it has to
       hung-below : (y : ℕ) → y < x → getD link′ y 0 ≡ holder p (cutsBelow p w B (x + 1)) y
@@ -281,7 +281,7 @@ module _ {p w : List ℕ} {B : ℕ} (d : Divisible p w B) where
                   ∙ sym (holder-up p (cutsBelow p w B (x + 1)) y (rw e l) (cutting ∙ ap not c))
 
               loose : member y (kept p w B weight x) ≡ false → getD link′ y 0 ≡ holder p (cutsBelow p w B (x + 1)) y
-              loose c = ⊎-elim stays (λ b. b .1) (t .moved y) ∙ sym (holder-cut p (cutsBelow p w B (x + 1)) y (cutting ∙ ap not c))
+              loose c = ⊎-elim stays (λ b. b .2) (t .moved .each y) ∙ sym (holder-cut p (cutsBelow p w B (x + 1)) y (cutting ∙ ap not c))
                 where
                   stays : getD link′ y 0 ≡ getD link y 0 → getD link′ y 0 ≡ y
                   stays q =
@@ -300,7 +300,7 @@ module _ {p w : List ℕ} {B : ℕ} (d : Divisible p w B) where
             t .carries,
             cutting-loaded .together,
             sum-within (entry now) (below-rising link′ x x) (below-rising link x x)
-                (hung-before link link′ x same (cutting-loaded .inside) (λ y. ⊎-elim (λ e. inl e) (λ b. inr (b .0)) (t .moved y))),
+                (released-hung (t .moved) same (cutting-loaded .inside)),
           )
 
       higher : (y : ℕ) → x < y → getD link′ y 0 ≡ getD link y 0

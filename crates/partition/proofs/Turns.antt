@@ -17,23 +17,27 @@ use Rattle.game.specs.Game.{absent}
 use Rattle.game.proofs.Sound.{getD-default}
 use Rattle.refusal.specs.Limits.{maxVertices, maxTotal}
 use Rattle.partition.specs.Cut.{carries, without, trim}
-use Rattle.partition.specs.Work.{Chain, Rising, hanging, Loaded, Candidates, Trimmed}
+use Rattle.partition.specs.Work.{Chain, Rising, hanging, Loaded, Candidates, Released, Trimmed}
 use Rattle.partition.proofs.Lists.{test-cases, rising-down, rising-ext, rising-without, without-in, in-without, without-shorter, sum-without, sum-entry-in}
 use Rattle.partition.proofs.Trimming.{Heaviest, trim-cut, trim-enough}
 use Rattle.partition.proofs.Carried.{entry, below-in, in-below, below-rising}
 use Rattle.partition.proofs.Chains.{After, chain-same, chain-after}
 use Rattle.partition.proofs.Scan.{Scan, scan-inside, scan-up, scan-take, scan-pass, scan-stop, scan-end, scan-none}
 
--- what hangs on x in `link`, where others have moved to themselves, hung on x in `was`
-pub hung-before : (was link : List ℕ) (x : ℕ) → length link ≡ length was → x < length was
-    → ((y : ℕ) → (getD link y 0 ≡ getD was y 0) ⊎ List·Memᴰ y (hanging was x)) → (z : ℕ) → List·Memᴰ z (hanging link x) → List·Memᴰ z (hanging was x)
-hung-before was link x e l moved z m =
-    let i = below-in link x x m in
+-- nothing is released yet
+pub released-none : {x floor : ℕ} {carried link : List ℕ} → Released x floor carried link link
+released-none = record { each = λ y. inl refl }
+
+-- what hangs on x still hung on it before
+pub released-hung : {x floor : ℕ} {carried was link : List ℕ} → Released x floor carried was link → length link ≡ length was → x < length was
+    → (z : ℕ) → List·Memᴰ z (hanging link x) → List·Memᴰ z (hanging was x)
+released-hung {x} {was = was} {link = link} m e l z h =
+    let i = below-in link x x h in
     ⊎-elim
     (λ (q : getD link z 0 ≡ getD was z 0).
     in-below was x x (i .0) (getD-default was z absent 0 (omega arith) ∙ sym q ∙ sym (getD-default link z absent 0 (omega arith)) ∙ i .1))
-    (λ h. h)
-    (moved z)
+    (λ b. b .0)
+    (m .each z)
 
 -- Where the loop stands. `was` is the table at first, `link` the table now. `uncut` is what the uncut children carry together, none of
 -- them more than `most`; those that carry as much, and more than `floor`, stand in the list from `start` on.
@@ -44,7 +48,7 @@ pub record Turn (x weight B floor first : ℕ) (next carried was link : List ℕ
   pub same : trim fuel (entry carried) B weight (hanging link x) ≡ trim (length (hanging was x)) (entry carried) B weight (hanging was x)
   pub together : uncut ≡ sum (map (entry carried) (hanging link x))
   pub small : weight + uncut ≤ maxTotal
-  pub moved : (y : ℕ) → (getD link y 0 ≡ getD was y 0) ⊎ (List·Memᴰ y (hanging was x) × (floor < getD carried y 0) × (getD link y 0 ≡ y))
+  pub moved : Released x floor carried was link
   pub most-of : (z : ℕ) → List·Memᴰ z (hanging link x) → entry carried z ≤ most
   pub rest : List ℕ
   pub chain : Chain next start rest
@@ -89,7 +93,7 @@ module _ {x weight uncut₀ B floor first : ℕ} {next carried was : List ℕ} (
         same = refl;
         together = k .together;
         small = k .small;
-        moved = λ y. inl refl;
+        moved = released-none;
         most-of = λ z m. k .each z (below-in was x x m .0);
         rest = n .list;
         chain = n .chain;
@@ -106,7 +110,7 @@ module _ {x weight uncut₀ B floor first : ℕ} {next carried was : List ℕ} (
     turn-few = omega (arith, t .size, k .few)
 
     hung : (z : ℕ) → List·Memᴰ z (hanging link x) → List·Memᴰ z (hanging was x)
-    hung = hung-before was link x (t .size) (k .inside) (λ y. ⊎-elim (λ e. inl e) (λ b. inr (b .0)) (t .moved y))
+    hung = released-hung (t .moved) (t .size) (k .inside)
 
     pub scan-begin : Scanning next carried link x floor first most start 0 floor start
     scan-begin = record { scan = begin; least = le-refl floor }
@@ -155,9 +159,12 @@ module _ {x weight uncut₀ B floor first : ℕ} {next carried was : List ℕ} (
     ends : (weight + uncut ≤ B) ⊎ ((z : ℕ) → List·Memᴰ z (hanging link x) → entry carried z ≤ floor) → Trimmed x weight B floor carried was link uncut
     ends e =
         record {
-          same = trim-enough (entry carried) B weight (length (hanging link x)) (t .fuel) (below-rising link x x) (le-refl (length (hanging link x))) (t .enough) ∙ t .same;
-          together = t .together;
-          moved = t .moved;
+          cuts =
+              record {
+                same = trim-enough (entry carried) B weight (length (hanging link x)) (t .fuel) (below-rising link x x) (le-refl (length (hanging link x))) (t .enough) ∙ t .same;
+                together = t .together;
+                moved = t .moved;
+              };
           ended = e;
         }
 
@@ -248,15 +255,18 @@ module _ {x weight uncut₀ B floor first : ℕ} {next carried was : List ℕ} (
             together = rw set-hanging (omega (arith, b .carries, t .together, sum-without (entry carried) h (below-rising link x x) (b .heaviest .inside)));
             small = omega (arith, t .small);
             moved =
-                λ y.
-                by-cases (ℕ-discrete y h)
-                (λ (q : y ≡ h).
-                inr (
-                  subst (λ (v : ℕ). List·Memᴰ v (hanging was x)) (sym q) (hung h (b .heaviest .inside)),
-                  rw q heavy,
-                  ap (λ (v : ℕ). getD (set link h h) v 0) q ∙ getD-set-same link h h 0 (lower .1) ∙ sym q,
-                ))
-                (λ (d : y ≢ h). rw (getD-set-other link h y h 0 d) (t .moved y));
+                record {
+                  each =
+                      λ y.
+                      by-cases (ℕ-discrete y h)
+                      (λ (q : y ≡ h).
+                      inr (
+                        subst (λ (v : ℕ). List·Memᴰ v (hanging was x)) (sym q) (hung h (b .heaviest .inside)),
+                        rw q heavy,
+                        ap (λ (v : ℕ). getD (set link h h) v 0) q ∙ getD-set-same link h h 0 (lower .1) ∙ sym q,
+                      ))
+                      (λ (d : y ≢ h). rw (getD-set-other link h y h 0 d) (t .moved .each y));
+                };
             most-of =
                 λ z m.
                 let w = without-in h (hanging link x) (rw set-hanging at m) in

@@ -7,7 +7,7 @@ use Prim.Native.Nat.{ℕ, zero, suc, _+_, _*_, _-_, _/_, _%_, _≤_, _<_}
 use native.Mathlib.Nat.{le-refl}
 use native.Mathlib.Decide.{ℕ-discrete, decLt}
 use native.Mathlib.Omega.{arith}
-use lib.ListN.{length, getD, set, length-set}
+use lib.ListN.{length, getD, set, replicate, length-set, length-replicate, getD-replicate}
 use lib.Seq.{getD-set-same, getD-set-other}
 use Rattle.partition.specs.Divide.{maxBlocks}
 use Rattle.partition.specs.Pack.{lightest}
@@ -78,10 +78,10 @@ module _ {loads nodes : List ℕ} where
         (λ i′ l f g d q. k .inner i′ l (omega arith) g (λ (r : i′ ≡ i / 2). omega arith))
         leaf node
 
-    pub play-node : {v : ℕ} → p < length loads → Lower (getD nodes (2 * p) 0) (getD nodes (2 * p + 1) 0) v → Playing loads (set nodes p v) p p
+    play-node : {v : ℕ} → p < length loads → Lower (getD nodes (2 * p) 0) (getD nodes (2 * p + 1) 0) v → Playing loads (set nodes p v) p p
     play-node l n = play-next (λ j q. absurd (omega arith)) (λ _. n)
 
-    pub play-leaf : {v : ℕ} → length loads ≤ p → v ≡ key (getD loads (p - length loads) 0) (p - length loads) → Playing loads (set nodes p v) p p
+    play-leaf : {v : ℕ} → length loads ≤ p → v ≡ key (getD loads (p - length loads) 0) (p - length loads) → Playing loads (set nodes p v) p p
     play-leaf l n =
         play-next (λ j q. let s : p - length loads ≡ j = omega arith in n ∙ ap (λ (j : ℕ). key (getD loads j 0) j) s) (λ q. absurd (omega arith))
 
@@ -93,6 +93,42 @@ module _ {loads nodes : List ℕ} where
         leaves = λ j l. k .leaves j l (omega arith);
         inner = λ i l g. k .inner i l (omega arith) g (λ (e : i ≡ at / 2). omega arith);
       }
+
+zeros : (k : ℕ) → length {A = ℕ} (replicate k 0) ≡ k
+zeros k = length-replicate k 0
+
+pub start-high : (k : ℕ) {nodes : List ℕ} {from at : ℕ} → Playing (replicate k 0) nodes from at → at ≤ 2 * k
+start-high k f = omega (arith, f .high, zeros k)
+
+-- at first no block has a load
+module _ {k : ℕ} {nodes : List ℕ} where
+  pub start-begin : 0 < k → length nodes ≡ 2 * maxBlocks → Playing (replicate k 0) nodes (2 * k) (2 * k)
+  start-begin h e = subst (λ (n : ℕ). Playing (replicate k 0) nodes (2 * n) (2 * n)) (zeros k) (play-begin e (omega (arith, (zeros k))))
+
+  module _ {i p : ℕ} (f : Playing (replicate k 0) nodes i i) (few : k ≤ maxBlocks) (e : p + 1 ≡ i) (h : 1 ≤ p) where
+    pub start-node : {v : ℕ} → p < k → Lower (getD nodes (2 * p) 0) (getD nodes (2 * p + 1) 0) v → Playing (replicate k 0) (set nodes p v) p p
+    start-node l n = play-node f (omega (arith, (zeros k))) e h (omega (arith, (zeros k))) n
+
+    pub start-leaf : k ≤ p → Playing (replicate k 0) (set nodes p (p - k)) p p
+    start-leaf l =
+        play-leaf f (omega (arith, (zeros k))) e h (omega (arith, (zeros k)))
+        (rw (zeros k) (omega (arith, getD-replicate {A = ℕ} k (p - k) 0 0 (omega (arith, f .high, (zeros k))))))
+
+-- of blocks with no load the first is the lightest
+pub lightest-zeros : {loads : List ℕ} {k : ℕ} → loads ≡ replicate k 0 → 0 < k → 0 ≡ lightest loads
+lightest-zeros {loads} {k} e h =
+    lightest-found
+    (record {
+      inside = omega (arith, size);
+      least = λ i l. omega (arith, none 0 h, none i (omega (arith, size)));
+      first = λ i l. inr (omega arith);
+    })
+  where
+    size : length loads ≡ k
+    size = ap length e ∙ zeros k
+
+    none : (i : ℕ) → i < k → getD loads i 0 ≡ 0
+    none i l = ap (λ (t : List ℕ). getD t i 0) e ∙ getD-replicate {A = ℕ} k i 0 0 l
 
 pub tournament-same : {loads loads′ nodes nodes′ : List ℕ} → loads′ ≡ loads → nodes′ ≡ nodes → Tournament loads nodes → Tournament loads′ nodes′
 tournament-same e f t = rw (e, f) t
@@ -202,7 +238,7 @@ module _ {loads nodes : List ℕ} (t : Tournament loads nodes) where
       let q : i ≡ 2 * (i / 2) + 1 = omega arith in
       omega (arith, r, up .right, ap (λ (i : ℕ). getD nodes i 0) q)))
 
-  pub winner-lightest : 0 < length loads → length loads ≤ maxBlocks → {r : ℕ} → r ≡ getD nodes 1 0 % 1_024 → r ≡ lightest loads
+  winner-lightest : 0 < length loads → length loads ≤ maxBlocks → {r : ℕ} → r ≡ getD nodes 1 0 % 1_024 → r ≡ lightest loads
   winner-lightest some few {r} e =
       let w = keyed (2 * length loads) 1 (omega arith) (omega arith) (omega arith) in
       let s : r ≡ w .block = omega (arith, e, w .keys, w .inside) in
@@ -218,3 +254,11 @@ module _ {loads nodes : List ℕ} (t : Tournament loads nodes) where
             by-cases (decLt (getD loads (w .block) 0) (getD loads i 0)) (λ g. inl g)
             (λ (g : getD loads (w .block) 0 < getD loads i 0 → ⊥). inr (omega (arith, below i l, w .inside)));
       })
+
+-- the replaying is over
+pub replay-done : {loads nodes : List ℕ} {at least : ℕ} → Replaying loads nodes at least → at ≤ 1 → 0 < length loads
+    → {r : ℕ} → r ≡ least % 1_024 → Tournament loads nodes × (r ≡ lightest loads)
+replay-done {loads} {nodes} {at} {least} k h some {r} e =
+    let t = play-done (k .playing) h (omega arith) in
+    let one : at ≡ 1 = omega (arith, k .playing .low) in
+    (t, winner-lightest t some (k .few) (e ∙ ap (λ (v : ℕ). v % 1_024) (sym (k .held) ∙ ap (λ (i : ℕ). getD nodes i 0) one)))

@@ -48,7 +48,7 @@ pub record Hanging (link : List ℕ) : Type 0 where
   pub up : (x : ℕ) → x < length link → (x ≤ getD link x 0) × (getD link x 0 < length link)
 
 -- each entry has gone up to the one that hangs on itself
-pub record Climbed (link tops : List ℕ) : Type 0 where
+pub record Tops (link tops : List ℕ) : Type 0 where
   pub stays : (x : ℕ) → x < length link → getD link x 0 ≡ x → getD tops x 0 ≡ x
   pub climbs : (x : ℕ) → x < length link → getD link x 0 ≢ x → getD tops x 0 ≡ getD tops (getD link x 0) 0
 
@@ -76,13 +76,20 @@ pub record Candidates (x floor first : ℕ) (next carried link : List ℕ) : Typ
   pub lower : (z : ℕ) → List·Memᴰ z list → z < x
   pub all : (z : ℕ) → List·Memᴰ z (hanging link x) → floor < getD carried z 0 → List·Memᴰ z list
 
--- What trimming x leaves: some children that carry more than `floor` hang on themselves, those that had to be cut first. What the
--- others carry together is r; it fits, or there is no heavier child left.
-pub record Trimmed (x weight B floor : ℕ) (carried was link : List ℕ) (r : ℕ) : Type 0 where
+-- some children of x that carry more than `floor` hang on themselves now, and all else is as it was
+pub record Released (x floor : ℕ) (carried was link : List ℕ) : Type 0 where
+  pub each : (y : ℕ) → (getD link y 0 ≡ getD was y 0) ⊎ (List·Memᴰ y (hanging was x) × (floor < getD carried y 0) × (getD link y 0 ≡ y))
+
+-- The released children had to be cut: to trim what still hangs on x leaves the same as to trim all that did; r is what it carries.
+pub record Due (x weight B floor : ℕ) (carried was link : List ℕ) (r : ℕ) : Type 0 where
   pub same : trim (length (hanging link x)) (λ (y : ℕ). getD carried y 0) B weight (hanging link x)
       ≡ trim (length (hanging was x)) (λ (y : ℕ). getD carried y 0) B weight (hanging was x)
   pub together : r ≡ sum (map (λ (y : ℕ). getD carried y 0) (hanging link x))
-  pub moved : (y : ℕ) → (getD link y 0 ≡ getD was y 0) ⊎ (List·Memᴰ y (hanging was x) × (floor < getD carried y 0) × (getD link y 0 ≡ y))
+  pub moved : Released x floor carried was link
+
+-- What trimming x leaves: what its uncut children carry together, which is r, fits, or none of them carries more than `floor`.
+pub record Trimmed (x weight B floor : ℕ) (carried was link : List ℕ) (r : ℕ) : Type 0 where
+  pub cuts : Due x weight B floor carried was link r
   pub ended : (weight + r ≤ B) ⊎ ((z : ℕ) → List·Memᴰ z (hanging link x) → getD carried z 0 ≤ floor)
 
 -- a linked list by falling rank
@@ -133,14 +140,19 @@ pub record Unfiled (heads : List ℕ) : Type 0 where
   pub few : length heads ≤ maxClasses
   pub empty : heads ≡ replicate (length heads) absent
 
--- What filing leaves of a linked list: its ranks by rising rank, each in the list of its class. The links of others are as they were.
-pub record Filed (first : ℕ) (carried was next heads : List ℕ) : Type 0 where
+-- the class of what y carries, where each class has a head
+abbrev pub classIn : List ℕ → List ℕ → ℕ → ℕ
+classIn heads carried y = classOf (length heads - 1) (getD carried y 0)
+
+-- What is filed of a linked list, all but `rest`: the ranks by rising rank, each in the list of its class. The links of others are as
+-- they were.
+pub record Filed (class : ℕ → ℕ) (rest : List ℕ) (first : ℕ) (was next heads : List ℕ) : Type 0 where
   pub listed : Listed first was
   pub ranks : List ℕ
   pub rising : Rising 0 ranks
-  pub all : (z : ℕ) → List·Memᴰ z (listed .list) → List·Memᴰ z ranks
+  pub all : (z : ℕ) → List·Memᴰ z (listed .list) → List·Memᴰ z rest ⊎ List·Memᴰ z ranks
   pub only : (z : ℕ) → List·Memᴰ z ranks → List·Memᴰ z (listed .list)
-  pub chains : (c : ℕ) → c < length heads → Chain next (getD heads c 0) (such (λ (y : ℕ). eqb (classOf (length heads - 1) (getD carried y 0)) c) ranks)
+  pub chains : (c : ℕ) → c < length heads → Chain next (getD heads c 0) (such (λ (y : ℕ). eqb (class y) c) ranks)
   pub others : (y : ℕ) → (List·Memᴰ y (listed .list) → ⊥) → getD next y 0 ≡ getD was y 0
 
 -- What lightening x leaves: those hang on it that it keeps, the others of its children on themselves; r is what it carries. The lists
@@ -148,7 +160,7 @@ pub record Filed (first : ℕ) (carried was next heads : List ℕ) : Type 0 wher
 pub record Lightened (x weight B : ℕ) (carried was link nextWas next : List ℕ) (r : ℕ) : Type 0 where
   pub kept : hanging link x ≡ trim (length (hanging was x)) (λ (y : ℕ). getD carried y 0) B weight (hanging was x)
   pub carries : r ≡ carries (λ (y : ℕ). getD carried y 0) weight (hanging link x)
-  pub moved : (y : ℕ) → (getD link y 0 ≡ getD was y 0) ⊎ (List·Memᴰ y (hanging was x) × (getD link y 0 ≡ y))
+  pub moved : Released x 0 carried was link
   pub others : (y : ℕ) → (List·Memᴰ y (hanging was x) → ⊥) → getD next y 0 ≡ getD nextWas y 0
 
 -- what cutting leaves: what each rank carries, and what it hangs on
@@ -189,9 +201,13 @@ pub record Outdated (b : ℕ) (loads nodes : List ℕ) : Type 0 where
   pub others : (j : ℕ) → j ≢ b → getD loads j 0 ≡ getD was j 0
   pub played : Tournament was nodes
 
--- what it leaves: the block of each top, and the loads
-pub record Packed (tops carriedNow block loads : List ℕ) : Type 0 where
+-- the loads once all groups are packed
+pub record AllPacked (tops carriedNow loads : List ℕ) : Type 0 where
   pub table : loads ≡ loadsBelow (λ (x : ℕ). eqb (getD tops x 0) x) (λ (x : ℕ). getD carriedNow x 0) (length loads) (length tops)
+
+-- what packing leaves: the loads, and the block of each top
+pub record Packed (tops carriedNow block loads : List ℕ) : Type 0 where
+  pub all : AllPacked tops carriedNow loads
   pub each : (x : ℕ) → x < length tops → getD tops x 0 ≡ x
       → getD block x 0 ≡ blockOf (λ (x : ℕ). eqb (getD tops x 0) x) (λ (x : ℕ). getD carriedNow x 0) (length loads) x
 
@@ -205,9 +221,9 @@ pub record Grouped (p w : List ℕ) (B : ℕ) (carriedNow tops : List ℕ) : Typ
   pub weights : carriedNow ≡ carried p w B
   pub table : tops ≡ tabulate (length p) (top p (cut p w B))
 
--- the block of each rank, and the loads
+-- the loads, and the block of each rank
 pub record Assigned (tops carriedNow block loads : List ℕ) : Type 0 where
-  pub table : loads ≡ loadsBelow (λ (x : ℕ). eqb (getD tops x 0) x) (λ (x : ℕ). getD carriedNow x 0) (length loads) (length tops)
+  pub all : AllPacked tops carriedNow loads
   pub blocks : block
       ≡ tabulate (length tops) (λ (y : ℕ). blockOf (λ (x : ℕ). eqb (getD tops x 0) x) (λ (x : ℕ). getD carriedNow x 0) (length loads) (getD tops y 0))
 

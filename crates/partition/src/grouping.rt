@@ -4,12 +4,12 @@ use crate::index::wide;
 use net::Forest;
 ghost use mathlib.Core.Path.{_≡_};
 ghost use lib.ListN.{length};
-ghost use Rattle.partition.specs.Work.{Divisible, Hanging, Climbed, Cuts, Grouped};
+ghost use Rattle.partition.specs.Work.{Divisible, Hanging, Tops, Cuts, Grouped};
 
 // Each vertex takes the top of what it hangs on, going down the ranks.
 fn find_tops(link: &mut [u32])
     requires { ⌜ Hanging (now link) ⌝ }
-    ensures { λ _. ⌜ Climbed (now (link .entry)) (now (link .exit)) ⌝ }
+    ensures { λ _. ⌜ Tops (now (link .entry)) (now (link .exit)) ⌝ }
 {
     let mut x = link.len();
     while x > 0 {

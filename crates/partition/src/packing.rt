@@ -3,7 +3,6 @@ use crate::index::wide;
 use crate::tournament::NODES;
 use crate::tournament::replay;
 use crate::tournament::start;
-use crate::tournament::winner;
 ghost use mathlib.Core.Path.{_≡_};
 ghost use Prim.Native.Nat.{ℕ, _<_};
 ghost use lib.ListN.{length, getD, replicate};
@@ -17,14 +16,14 @@ fn pack(top: &[u32], carried: &[u32], block: &mut [u32], loads: &mut [u32])
     ensures { λ _. ⌜ Packed (now (top .entry)) (now (carried .entry)) (now (block .exit)) (now (loads .exit)) ⌝ }
 {
     let mut nodes: [u64; NODES] = [0; NODES];
-    start(loads, &mut nodes);
+    start(loads.len(), &mut nodes);
+    let mut best = 0;
     let mut x = 0;
     while x < top.len() {
         if wide(top[x]) == x {
-            let best = winner(&nodes);
             block[x] = best as u32;
             loads[best] += carried[x];
-            replay(loads, best, &mut nodes);
+            best = replay(loads, best, &mut nodes);
         }
         x += 1;
     }

@@ -2,8 +2,9 @@
 // Of k blocks, node k + j stands for block j, and a node i below k has the lower of the keys of the nodes 2i and 2i + 1, so that node 1
 // has the lowest key of all. A key puts a block's load before its number.
 ghost use mathlib.Core.Path.{_≡_};
-ghost use Prim.Native.Nat.{_+_, _*_, _/_, _%_, _≤_, _<_};
-ghost use lib.ListN.{length, getD};
+ghost use Prim.Native.Nat.{_+_, _*_, _/_, _≤_, _<_};
+ghost use lib.ListN.{length, replicate};
+ghost use Rattle.partition.specs.Pack.{lightest};
 ghost use Rattle.partition.specs.Divide.{maxBlocks};
 ghost use Rattle.partition.specs.Work.{key, Lower, Tournament, Outdated};
 
@@ -34,35 +35,26 @@ fn sibling(i: usize) -> usize
     if i % 2 == 0 { i + 1 } else { i - 1 }
 }
 
-// Lets all blocks play, from the last node up.
-pub fn start(loads: &[u32], nodes: &mut [u64])
-    requires { ⌜ (0 < length (now loads)) × (length (now loads) ≤ maxBlocks) × (length (now nodes) ≡ 2 * maxBlocks) ⌝ }
-    ensures { λ _. ⌜ Tournament (now (loads .entry)) (now (nodes .exit)) ⌝ }
+// Lets all blocks play, with no load yet, from the last node up.
+pub fn start(blocks: usize, nodes: &mut [u64])
+    requires { ⌜ (0 < blocks) × (blocks ≤ maxBlocks) × (length (now nodes) ≡ 2 * maxBlocks) ⌝ }
+    ensures { λ _. ⌜ Tournament (replicate blocks 0) (now (nodes .exit)) ⌝ }
 {
-    let k = loads.len();
-    let mut i = 2 * k;
+    let mut i = 2 * blocks;
     while 1 < i {
         i -= 1;
-        if i < k {
+        if i < blocks {
             nodes[i] = lower(nodes[2 * i], nodes[2 * i + 1]);
         } else {
-            nodes[i] = key_of(loads[i - k], i - k);
+            nodes[i] = (i - blocks) as u64;
         }
     }
 }
 
-// The block that has won.
-pub fn winner(nodes: &[u64]) -> usize
-    requires { ⌜ 1 < length (now nodes) ⌝ }
-    ensures { λ r. ⌜ r ≡ getD (now (nodes .entry)) 1 0 % 1_024 ⌝ }
-{
-    (nodes[1] % NUMBERS) as usize
-}
-
-// A block has a new load: it plays again, and so do the nodes above it.
-pub fn replay(loads: &[u32], block: usize, nodes: &mut [u64])
+// A block has a new load: it plays again, and so do the nodes above it. The answer is the block that wins.
+pub fn replay(loads: &[u32], block: usize, nodes: &mut [u64]) -> usize
     requires { ⌜ Outdated block (now loads) (now nodes) ⌝ }
-    ensures { λ _. ⌜ Tournament (now (loads .entry)) (now (nodes .exit)) ⌝ }
+    ensures { λ r. ⌜ Tournament (now (loads .entry)) (now (nodes .exit)) × (r ≡ lightest (now (loads .entry))) ⌝ }
 {
     let mut i = loads.len() + block;
     let mut least = key_of(loads[block], block);
@@ -72,4 +64,5 @@ pub fn replay(loads: &[u32], block: usize, nodes: &mut [u64])
         i /= 2;
         nodes[i] = least;
     }
+    (least % NUMBERS) as usize
 }

@@ -1,6 +1,7 @@
 use native.Mathlib.Omega.{arith}
+use mathlib.Core.Path.{refl}
 use borrow.Author.Needs.{needs}
-use Rattle.partition.proofs.Winners.{Replaying, replay-begin, replay-more, play-done}
+use Rattle.partition.proofs.Winners.{Replaying, replay-begin, replay-more, replay-done}
 use Rattle.partition.proofs.tournament.replay.Statement.{statement}
 use Rattle.partition.proofs.tournament.replay.Tie as tie
 
@@ -59,7 +60,7 @@ same-length : tie.Need-same-length Inv-loop μ-loop
 same-length c = search needs
 
 returns : tie.Need-returns Inv-loop μ-loop
-returns c = play-done (c .before .loop .inv .playing) (c .loop-test .left) (omega arith)
+returns c = replay-done (c .before .loop .inv) (c .loop-test .left) (omega (arith, c .before .before .before .before .before .before .pre .inside)) refl
 
 pub replay-spec : {M : Type 1} → statement M
 replay-spec =

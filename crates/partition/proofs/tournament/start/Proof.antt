@@ -1,20 +1,21 @@
 use native.Mathlib.Omega.{arith}
+use lib.ListN.{replicate}
 use borrow.Author.Needs.{needs}
-use Rattle.partition.proofs.Winners.{Playing, play-begin, play-node, play-leaf, play-done}
+use Rattle.partition.proofs.Winners.{Playing, start-high, start-begin, start-node, start-leaf, play-done}
 use Rattle.partition.proofs.tournament.start.Statement.{statement}
 use Rattle.partition.proofs.tournament.start.Tie as tie
 
 abbrev Inv-loop : tie.InvT-loop
-Inv-loop loads nodes₀ k i₀ nodes i = Playing loads nodes i i
+Inv-loop blocks nodes₀ i₀ nodes i = Playing (replicate blocks 0) nodes i i
 
 abbrev μ-loop : tie.MeasureT-loop
-μ-loop loads nodes₀ k i₀ nodes i = i
+μ-loop blocks nodes₀ i₀ nodes i = i
 
 mul-i : tie.Need-mul-i Inv-loop μ-loop
 mul-i c = search needs
 
 loop-holds : tie.Need-loop-holds Inv-loop μ-loop
-loop-holds c = play-begin (c .before .before .pre .2) (c .before .before .pre .0)
+loop-holds c = start-begin (c .before .pre .0) (c .before .pre .2)
 
 sub-i : tie.Need-sub-i Inv-loop μ-loop
 sub-i c = search needs
@@ -53,28 +54,19 @@ loop-less : tie.Need-loop-less Inv-loop μ-loop
 loop-less c = search needs
 
 loop-again : tie.Need-loop-again Inv-loop μ-loop
-loop-again c = play-node (c .before .before .before .before .before .loop .inv) (c .before .before .before .before .before .before .before .before .pre .1) (omega arith) (omega arith) (c .before .before .before .if1 .taken) (c .lower .ensures)
-
-mul-key-of : tie.Need-mul-key-of Inv-loop μ-loop
-mul-key-of c = search needs
-
-shared-slice-read-key-of : tie.Need-shared-slice-read-key-of Inv-loop μ-loop
-shared-slice-read-key-of c = search needs
-
-key-of-requires : tie.Need-key-of-requires Inv-loop μ-loop
-key-of-requires c κs = search needs
+loop-again c = start-node (c .before .before .before .before .before .loop .inv) (c .before .before .before .before .before .before .before .pre .1) (omega arith) (omega arith) (c .before .before .before .if1 .taken) (c .lower .ensures)
 
 mul-nodes-2 : tie.Need-mul-nodes-2 Inv-loop μ-loop
-mul-nodes-2 c = search needs
+mul-nodes-2 c = omega (arith, start-high (c .before .before .before .before .args .blocks) (c .before .before .loop .inv), c .before .before .before .before .pre .1)
 
 slice-write-nodes-2 : tie.Need-slice-write-nodes-2 Inv-loop μ-loop
-slice-write-nodes-2 c = search needs
+slice-write-nodes-2 c = omega (arith, start-high (c .before .before .before .before .args .blocks) (c .before .before .loop .inv), c .before .before .before .before .pre .1, c .before .before .loop .inv .size)
 
 loop-less-2 : tie.Need-loop-less-2 Inv-loop μ-loop
 loop-less-2 c = search needs
 
 loop-again-2 : tie.Need-loop-again-2 Inv-loop μ-loop
-loop-again-2 c = play-leaf (c .before .before .before .before .loop .inv) (c .before .before .before .before .before .before .before .pre .1) (omega arith) (omega arith) (c .before .before .if1 .left) (c .key-of .ensures)
+loop-again-2 c = start-leaf (c .before .before .loop .inv) (c .before .before .before .before .pre .1) (omega arith) (omega arith) (c .if1 .left)
 
 same-length : tie.Need-same-length Inv-loop μ-loop
 same-length c = search needs
@@ -103,9 +95,6 @@ start-spec =
     slice-write-nodes
     loop-less
     loop-again
-    mul-key-of
-    shared-slice-read-key-of
-    key-of-requires
     mul-nodes-2
     slice-write-nodes-2
     loop-less-2
