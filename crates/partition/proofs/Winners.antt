@@ -262,3 +262,19 @@ replay-done {loads} {nodes} {at} {least} k h some {r} e =
     let t = play-done (k .playing) h (omega arith) in
     let one : at ≡ 1 = omega (arith, k .playing .low) in
     (t, winner-lightest t some (k .few) (e ∙ ap (λ (v : ℕ). v % 1_024) (sym (k .held) ∙ ap (λ (i : ℕ). getD nodes i 0) one)))
+
+-- there was nothing to replay: the load is as it was
+pub replay-none : {b : ℕ} {loads nodes : List ℕ} → Outdated b loads nodes → {v : ℕ} → getD nodes (length loads + b) 0 ≡ v → v ≡ key (getD loads b 0) b
+    → {r : ℕ} → r ≡ getD nodes 1 0 % 1_024 → Tournament loads nodes × (r ≡ lightest loads)
+replay-none {b} {loads} {nodes} o e f q =
+    let t : Tournament loads nodes =
+    record {
+      size = o .played .size;
+      leaves =
+          λ j l.
+          by-cases (ℕ-discrete j b)
+          (λ (s : j ≡ b). rw s (e ∙ f))
+          (λ d. rw (o .size, o .others j d) (o .played .leaves j (omega (arith, o .size))));
+      inner = λ i h l. o .played .inner i h (omega (arith, o .size));
+    } in
+    (t, winner-lightest t (omega (arith, o .inside)) (o .few) q)

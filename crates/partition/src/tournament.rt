@@ -51,13 +51,17 @@ pub fn start(blocks: usize, nodes: &mut [u64])
     }
 }
 
-// A block has a new load: it plays again, and so do the nodes above it. The answer is the block that wins.
+// A block has a new load: it plays again, and so do the nodes above it. The answer is the block that wins. A group that carries nothing
+// leaves the load as it was, and all nodes too.
 pub fn replay(loads: &[u32], block: usize, nodes: &mut [u64]) -> usize
     requires { ⌜ Outdated block (now loads) (now nodes) ⌝ }
     ensures { λ r. ⌜ Tournament (now (loads .entry)) (now (nodes .exit)) × (r ≡ lightest (now (loads .entry))) ⌝ }
 {
     let mut i = loads.len() + block;
     let mut least = key_of(loads[block], block);
+    if nodes[i] == least {
+        return (nodes[1] % NUMBERS) as usize;
+    }
     nodes[i] = least;
     while 1 < i {
         least = lower(least, nodes[sibling(i)]);

@@ -1,7 +1,7 @@
 use native.Mathlib.Omega.{arith}
 use mathlib.Core.Path.{refl}
 use borrow.Author.Needs.{needs}
-use Rattle.partition.proofs.Winners.{Replaying, replay-begin, replay-more, replay-done}
+use Rattle.partition.proofs.Winners.{Replaying, replay-begin, replay-more, replay-done, replay-none}
 use Rattle.partition.proofs.tournament.replay.Statement.{statement}
 use Rattle.partition.proofs.tournament.replay.Tie as tie
 
@@ -23,6 +23,18 @@ shared-slice-read-key-of c = search needs
 key-of-requires : tie.Need-key-of-requires Inv-loop μ-loop
 key-of-requires c κs = search needs
 
+mul-if1 : tie.Need-mul-if1 Inv-loop μ-loop
+mul-if1 c = search needs
+
+slice-read-if1 : tie.Need-slice-read-if1 Inv-loop μ-loop
+slice-read-if1 c = search needs
+
+slice-read-result : tie.Need-slice-read-result Inv-loop μ-loop
+slice-read-result c = search needs
+
+returns : tie.Need-returns Inv-loop μ-loop
+returns c = replay-none (c .before .before .before .before .before .before .before .pre) (c .before .if1 .taken) (c .before .before .before .key-of .ensures) refl
+
 mul-nodes : tie.Need-mul-nodes Inv-loop μ-loop
 mul-nodes c = search needs
 
@@ -30,7 +42,7 @@ slice-write-nodes : tie.Need-slice-write-nodes Inv-loop μ-loop
 slice-write-nodes c = search needs
 
 loop-holds : tie.Need-loop-holds Inv-loop μ-loop
-loop-holds c = replay-begin (c .before .before .before .before .pre) (c .key-of .ensures)
+loop-holds c = replay-begin (c .before .before .before .before .before .before .pre) (c .before .before .key-of .ensures)
 
 sibling-requires : tie.Need-sibling-requires Inv-loop μ-loop
 sibling-requires c κs = search needs
@@ -59,8 +71,8 @@ loop-again c = replay-more (c .before .before .before .before .loop .inv) (c .be
 same-length : tie.Need-same-length Inv-loop μ-loop
 same-length c = search needs
 
-returns : tie.Need-returns Inv-loop μ-loop
-returns c = replay-done (c .before .loop .inv) (c .loop-test .left) (omega (arith, c .before .before .before .before .before .before .pre .inside)) refl
+returns-2 : tie.Need-returns-2 Inv-loop μ-loop
+returns-2 c = replay-done (c .before .loop .inv) (c .loop-test .left) (omega (arith, c .before .before .before .before .before .before .before .before .pre .inside)) refl
 
 pub replay-spec : {M : Type 1} → statement M
 replay-spec =
@@ -72,6 +84,10 @@ replay-spec =
     mul-key-of
     shared-slice-read-key-of
     key-of-requires
+    mul-if1
+    slice-read-if1
+    slice-read-result
+    returns
     mul-nodes
     slice-write-nodes
     loop-holds
@@ -84,4 +100,4 @@ replay-spec =
     loop-less
     loop-again
     same-length
-    returns)
+    returns-2)
