@@ -27,9 +27,9 @@ target/lib/$(SONAME): target/lib/libniqastul.a
 target/lib/libniqastul.so: target/lib/$(SONAME)
 	ln -sf $(SONAME) $@
 
+# how far the proofs are is said on standard error, so that standard output is the case alone
 case:
-	@mkdir -p target
-	@rt check blocks >target/blocks.log 2>&1 || { cat target/blocks.log; exit 1; }
+	@if command -v python3 >/dev/null; then PYTHONDONTWRITEBYTECODE=1 python3 tests/progress.py rt check blocks; else rt check blocks; fi >&2
 	@cd crates/blocks/data && ../../../target/bin/blocks
 
 define PKG_CONFIG

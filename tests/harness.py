@@ -41,10 +41,11 @@ def test(at_least, given=True, missing=None):
 def run_all():
     """Runs the registered tests; answers how many passed and failed."""
     passed = failed = 0
-    for function, at_least, missing in TESTS:
+    for number, (function, at_least, missing) in enumerate(TESTS, 1):
         name = function.__module__ + "." + function.__name__
+        place = f"[{number}/{len(TESTS)}]"
         if missing:
-            print(f"skip   {name}: {missing}", flush=True)
+            print(f"{place} skip {name}: {missing}", flush=True)
             continue
         checks, began = Checks(), time.time()
         try:
@@ -55,5 +56,5 @@ def run_all():
         except Exception:
             traceback.print_exc()
             verdict, failed = "FAILED", failed + 1
-        print(f"{verdict:6} {name}: {checks.count} checks, {time.time() - began:.1f} s", flush=True)
+        print(f"{place} {verdict} {name}: {checks.count} checks, {time.time() - began:.1f} s", flush=True)
     return passed, failed

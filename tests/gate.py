@@ -1,0 +1,75 @@
+"""The gate. Proves every crate from nothing, tries the must-fail edits and runs the programs (rt ci); builds the library from the proved
+crates and runs the tests from outside (tests/run). These begin as soon as every crate is proved, beside the edits: they write only the
+library and their own files, and rt ci removes target/ at its start alone. The last line is 'N passed, M failed', of both together."""
+
+import queue
+import signal
+import subprocess
+import sys
+
+from progress import ROOT, Proving, Step, say
+
+
+def toolchain():
+    """Says so where another toolchain is at hand than the one that the proofs were checked with."""
+    known = (ROOT / "toolchain.txt").read_text().strip()
+    at_hand = subprocess.run(["rt", "version"], capture_output=True, text=True).stdout.strip()
+    if at_hand != known:
+        say(f"warning: the proofs were checked with {known}; at hand is {at_hand or 'no rt'}")
+
+
+def formatted():
+    return subprocess.run(["rt", "fmt", "--check"], cwd=ROOT).returncode == 0
+
+
+def run(steps):
+    """Runs both steps and shows what they say; `steps` gets each as it is begun."""
+    lines = queue.Queue()
+    proving = Proving([], with_edits=True)
+    running = steps["rt ci"] = Step(["rt", "ci"], lines)
+    left = 1
+    while left:
+        try:
+            step, line = lines.get(timeout=1)
+        except queue.Empty:
+            proving.show_begun()
+            continue
+        if line is None:
+            left -= 1
+            if step is running:
+                proving.end()
+        else:
+            step.last = line
+            if step is running:
+                proving.line(line)
+            else:
+                say(f"tests: {line}")
+        if "tests/run" not in steps and (proving.proved() or running.process.poll() is not None and line is None):
+            steps["tests/run"] = Step(["tests/run"], lines)
+            left += 1
+
+
+def main():
+    toolchain()
+    if not formatted():
+        say("0 passed, 1 failed")
+        return 1
+    steps = {}
+    passed, failed = 0, 1
+    try:
+        run(steps)
+        for name, step in steps.items():
+            if step.process.returncode not in (0, 1):
+                say(f"{name} ended with status {step.process.returncode}")
+        counts = [step.counts() for step in steps.values()]
+        passed, failed = sum(count[0] for count in counts), sum(count[1] for count in counts)
+    finally:
+        for step in steps.values():
+            step.stop()
+        say(f"{passed} passed, {failed} failed")
+    return 1 if failed else 0
+
+
+if __name__ == "__main__":
+    signal.signal(signal.SIGTERM, lambda *_: sys.exit(1))
+    sys.exit(main())
