@@ -12,7 +12,8 @@
 #include <string.h>
 #include <time.h>
 
-enum { ROUNDS = 15, FEW = 100 };
+/* Of long lists a few rounds have to do, for time's sake. */
+enum { ROUNDS = 15, LONG_ROUNDS = 3, LONG_LIST = 4000000, FEW = 100 };
 
 /* The time that this program had a processor, in milliseconds: what else runs on the machine counts less. */
 static double now(void)
@@ -147,11 +148,11 @@ static void measure(const char *family, const struct net *net)
     uint32_t *first = room(n, 4), *first_weights = room(n, 4), *second = room(n, 4), *second_weights = room(n, 4);
     uint32_t *most = room(n, 4), *most_weights = room(n, 4);
     int *parents = NULL;
-    double grow, peer, triplets, plain, added, one_pass, joined, plain_joined, relabelled, plain_relabelled;
+    double grow, peer, triplets, plain, added, one_pass, joined, plain_joined, relabelled, checked_relabelled, plain_relabelled;
     double saved, plain_saved, was_read, plain_was_read;
     static const uint32_t blocks[] = {16, MAX_BLOCKS};
     double divided[] = {1e300, 1e300}, plain_divided[] = {1e300, 1e300}, counted = 1e300, reported = 1e300, plain_reported = 1e300;
-    grow = peer = triplets = plain = added = one_pass = joined = plain_joined = relabelled = plain_relabelled = 1e300;
+    grow = peer = triplets = plain = added = one_pass = joined = plain_joined = relabelled = checked_relabelled = plain_relabelled = 1e300;
     saved = plain_saved = was_read = plain_was_read = 1e300;
 
     start(first, first_weights, n);
@@ -160,7 +161,7 @@ static void measure(const char *family, const struct net *net)
     add(&t, second, second_weights, n, net->list + 2 * half, m - half);
     start(most, most_weights, n);
     add(&t, most, most_weights, n, net->list, m - few);
-    for (int round = 0; round < ROUNDS; round++) {
+    for (int round = 0; round < (m > LONG_LIST ? LONG_ROUNDS : ROUNDS); round++) {
         TIME(triplets, free(parents), parents = suitesparse_etree_by_triplets(net));
         TIME(peer, free(parents), parents = suitesparse_etree(net, &t));
         TIME(plain, , plain_grow(net, &t));
@@ -207,6 +208,9 @@ static void measure(const char *family, const struct net *net)
         free(counts);
 
         TIME(plain_relabelled, , plain_relabel(net, net->order, t.ranks, t.ends));
+        uint32_t refusal;
+        TIME(checked_relabelled, , refusal = checked_relabel(net, net->order, t.ranks, t.ends));
+        must(refusal == 0, "plain C refuses to relabel");
         TIME(relabelled, , relabel(net, &t));
     }
     row("grow", family, net);
@@ -216,7 +220,7 @@ static void measure(const char *family, const struct net *net)
     row("join", family, net);
     printf("\tniqastul\t%.4f\tSuiteSparse\t%.4f\tplain C\t%.4f\n", joined, peer, plain_joined);
     row("relabel", family, net);
-    printf("\tniqastul\t%.4f\tplain C\t%.4f\n", relabelled, plain_relabelled);
+    printf("\tniqastul\t%.4f\tchecked C\t%.4f\tplain C\t%.4f\n", relabelled, checked_relabelled, plain_relabelled);
     row("save", family, net);
     printf("\tniqastul\t%.4f\tplain C\t%.4f\n", saved, plain_saved);
     row("read", family, net);

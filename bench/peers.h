@@ -4,7 +4,7 @@
 
 #include "nets.h"
 
-enum { MAX_BLOCKS = 1000 };
+enum { MAX_VERTICES = 1000000, MAX_BLOCKS = 1000 };
 
 /* Tables for all that is measured on one net, made once and written before they are measured. */
 struct tables {
@@ -32,6 +32,8 @@ void plain_grow(const struct net *net, struct tables *t);
 /* Joins the net in parents2 into that in parents, likewise. */
 void plain_join(size_t n, struct tables *t);
 void plain_relabel(const struct net *net, const uint32_t *order, uint32_t *out, uint32_t *inverse);
+/* The same with the library's tests of the order and of the edges, all before anything is written; answers the refusal, or 0. */
+uint32_t checked_relabel(const struct net *net, const uint32_t *order, uint32_t *out, uint32_t *inverse);
 void plain_save(size_t n, const struct tables *t);
 void plain_read(size_t n, struct tables *t);
 /* Divides the net in parents and weights: children sorted by what they carry where some must be cut, blocks in a heap. */

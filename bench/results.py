@@ -10,22 +10,27 @@ MEASURED = {
     "grow": ("Growing a net from its edge list (start, add)", "grow", "SuiteSparse"),
     "add 100": ("Adding 100 edges", "add", "SuiteSparse"),
     "join": ("Joining two halves", "join", "SuiteSparse"),
-    "relabel": ("Relabelling", "relabel", "plain C"),
+    "relabel": ("Relabelling", "relabel", "checked C"),
     "save": ("Saving", "save", "plain C"),
     "read": ("Reading", "read", "plain C"),
     "divide 16": ("Dividing into 16 blocks", "divide-16", "plain C"),
     "divide 1000": ("Dividing into 1,000 blocks", "divide-1000", "plain C"),
     "report": ("Reporting on a division into 16 blocks", "report", "plain C"),
+    "threads": ("Growing a net in two threads", "threads", "one thread"),
 }
 
-PEERS = """Milliseconds of processor time, the best of 15 rounds in each of which every contender runs once. `niqastul` is the whole public
-call, with its refusals, weights and cleared work tables. `SuiteSparse` builds compressed columns from the edge list into tables that
-exist already and calls CXSparse's `cs_etree`; `cs_compress` goes through its triplet form. Neither checks its input or counts
-weights. `plain C` is the bare algorithm of the library, compiled by gcc -O3. `one pass` reads the net's two tables once. SuiteSparse
-can neither add nor join: its time there is that of the whole net grown anew. All must come to the same parents. Dividing is measured
-with a limit of a quarter of a block's even share of the total, or the largest weight. A report grows the net of the edges and compares it,
-counts reaches, divides, and counts blocks; SuiteSparse's time there is that of `cs_etree` with its columns, `cs_post` and `cs_counts`,
-whose column counts have to be the reaches.
+PEERS = """Milliseconds of processor time, the best of 15 rounds, of 3 where there are more than 4,000,000 edges, in each of which
+every contender runs once. `niqastul` is the whole public call, with its refusals, weights and cleared work tables. `SuiteSparse`
+builds compressed columns from the edge list into tables that exist already and calls CXSparse's `cs_etree`; `cs_compress` goes
+through its triplet form. Neither checks its input or counts weights. `plain C` is the bare algorithm of the library, compiled by
+gcc -O3; `checked C` is plain C that finds the same refusals before it writes anything, as the library does. `one pass` reads the
+net's two tables once. SuiteSparse can neither add nor join: its time there is that of the whole net grown anew. All must come to
+the same parents. Dividing is measured with a limit of a quarter of a block's even share of the total, or the largest weight. A
+report grows the net of the edges and compares it, counts reaches, divides, and counts blocks; SuiteSparse's time there is that of
+`cs_etree` with its columns, `cs_post` and `cs_counts`, whose column counts have to be the reaches. Growing in two threads is
+`Net::add_in_threads` of the Rust crate on a new net: half of the list in each, then a join; a list of fewer than two edges to a
+vertex is left to one thread. Its times are elapsed ones, the best of 7 rounds, with the allocation of all tables; they need two
+processors that nothing else uses.
 """
 
 
@@ -56,7 +61,8 @@ def table(rows, against):
 
 # Plots: one panel for each family, time against size, both logarithmic.
 
-COLOURS = {"niqastul": "#0072B2", "SuiteSparse": "#D55E00", "plain C": "#777777", "cs_compress": "#E69F00", "one pass": "#009E73"}
+COLOURS = {"niqastul": "#0072B2", "SuiteSparse": "#D55E00", "plain C": "#777777", "checked C": "#CC79A7", "cs_compress": "#E69F00", "one pass": "#009E73",
+           "two threads": "#0072B2", "one thread": "#D55E00"}
 WIDTH, HEIGHT, LEFT, BOTTOM, TOP, COLUMNS = 250, 170, 40, 34, 26, 4
 
 

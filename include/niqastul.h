@@ -32,6 +32,7 @@ extern "C" {
 
 #define NIQASTUL_ABSENT UINT32_C(0xFFFFFFFF) /* the parent of a vertex that has none */
 #define NIQASTUL_MAX_VERTICES 1000000
+#define NIQASTUL_MAX_EDGES 16000000 /* of a list that is added or reported on */
 #define NIQASTUL_MAX_TOTAL 16000000 /* of the weights of a net */
 #define NIQASTUL_MAX_LIMIT 16000000 /* of the weight that a group may carry */
 #define NIQASTUL_MAX_BLOCKS 1000
@@ -49,7 +50,7 @@ enum niqastul_answer {
     NIQASTUL_BAD_VERTEX = 4,      /* an edge names n or more */
     NIQASTUL_LOOP = 5,            /* both ends of an edge are one vertex; 4 or 5 is that of the first faulty edge */
     NIQASTUL_BAD_PARENT = 7,      /* a record's parent is neither absent nor above its vertex */
-    NIQASTUL_FULL = 20,           /* a total above NIQASTUL_MAX_TOTAL */
+    NIQASTUL_FULL = 20,           /* a total above NIQASTUL_MAX_TOTAL, or a list of more than NIQASTUL_MAX_EDGES edges */
     NIQASTUL_TOO_HEAVY = 22,      /* a weight above the limit, so that no cutting can hold it */
     NIQASTUL_OTHER_EDGES = 23     /* edges that have other parents or weights than the net */
 };
@@ -76,7 +77,8 @@ uint32_t niqastul_start(uint32_t *parents, size_t parents_length,
  *   reads   edges   [m]        in ranks
  *   writes  parents [n], weights [n]
  *           ends [n], jump [n], lower [niqastul_add_lower(n, m)]      work; end as zeros
- *   refused 1, 2, 30, 4 or 5 at the first faulty edge, 20 (the old total and the new edges together) */
+ *   refused 1, 2, 30, 4 or 5 at the first faulty edge, 20 (the old total and the new edges together, so
+ *           that a list of more than NIQASTUL_MAX_EDGES edges is always refused) */
 uint32_t niqastul_add(uint32_t *parents, size_t parents_length,
                       uint32_t *weights, size_t weights_length,
                       const uint32_t *edges, size_t edges_length,
@@ -93,8 +95,9 @@ static inline size_t niqastul_add_lower(size_t parents_length, size_t edges_leng
  * both, which are those of the edges of both together; the weights are summed.
  *   reads   other_parents [n], other_weights [n]
  *   writes  parents [n], weights [n]
- *           ends [n], jump [n], lower [niqastul_join_lower(n, n)]     work; end as zeros
- *   refused 1 (of either net), 2 (each net's weights against its own parents), 21, 30 (of either net), 20 (both totals together) */
+ *           ends [n], jump [n], lower [niqastul_join_lower(n, the other net's n)]     work; end as zeros
+ *   refused 1 (of either net), 2 (each net's weights against its own parents, lower against the sum of both vertex counts, also
+ *           where they differ: 2 comes before 21), 21, 30 (of either net), 20 (both totals together) */
 uint32_t niqastul_join(uint32_t *parents, size_t parents_length,
                        uint32_t *weights, size_t weights_length,
                        const uint32_t *other_parents, size_t other_parents_length,
@@ -162,7 +165,7 @@ uint32_t niqastul_divide(const uint32_t *parents, size_t parents_length,
  *           *bound             the sum of the reaches of the vertices that are cut off
  *           *volume            the sum of (block_count - 1) over the vertices with an edge, never above the bound
  *   refused 1, 2 (block_loads against the number of blocks as given), 8, 30 (of the net), 4 or 5 at the first faulty edge,
- *           20 (more than NIQASTUL_MAX_TOTAL edges), 22, 23
+ *           20 (more than NIQASTUL_MAX_EDGES edges), 22, 23
  * The exception: refused with 23, it leaves the net of the edges in compared_parents and compared_weights, and zeros in the work
  * tables. */
 uint32_t niqastul_report(const uint32_t *parents, size_t parents_length,

@@ -29,7 +29,7 @@ def python_binding(t):
 @test(at_least=1)
 def rust_binding(t):
     shown = printed("cargo", "test", "--offline", "--quiet", cwd=ROOT / "bindings" / "rust").stdout
-    t.true(sum(int(passed) for passed in re.findall(r"(\d+) passed", shown)) >= 11, shown)
+    t.true(sum(int(passed) for passed in re.findall(r"(\d+) passed", shown)) >= 17, shown)
 
 
 @test(at_least=60)

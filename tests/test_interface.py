@@ -39,9 +39,9 @@ def constants(t):
     """The header's numbers, as a C program prints them."""
     source = """#include <stdio.h>
     #include "niqastul.h"
-    int main(void) { printf("%u %u %u %u %u %zu %zu %zu", NIQASTUL_ABSENT, NIQASTUL_MAX_VERTICES, NIQASTUL_MAX_TOTAL, NIQASTUL_MAX_LIMIT,
-        NIQASTUL_MAX_BLOCKS, niqastul_add_lower(5, 7), niqastul_join_lower(5, 7), niqastul_bytes(5)); }"""
-    numbers = (ABSENT, calls.MAX_MARKS, calls.MAX_TOTAL, calls.MAX_LIMIT, calls.MAX_BLOCKS, 8, 12, 40)
+    int main(void) { printf("%u %u %u %u %u %u %zu %zu %zu", NIQASTUL_ABSENT, NIQASTUL_MAX_VERTICES, NIQASTUL_MAX_EDGES, NIQASTUL_MAX_TOTAL,
+        NIQASTUL_MAX_LIMIT, NIQASTUL_MAX_BLOCKS, niqastul_add_lower(5, 7), niqastul_join_lower(5, 7), niqastul_bytes(5)); }"""
+    numbers = (ABSENT, calls.MAX_MARKS, calls.MAX_TIES, calls.MAX_TOTAL, calls.MAX_LIMIT, calls.MAX_BLOCKS, 8, 12, 40)
     for compiler, language in (("gcc -std=c99", "c"), ("gcc -std=c11", "c"), ("g++ -std=c++98", "c++"), ("g++ -std=c++17", "c++")):
         with tempfile.TemporaryDirectory() as folder:
             program = folder + "/constants"
@@ -52,6 +52,15 @@ def constants(t):
     answers = [int(number) for number in re.findall(r"^    NIQASTUL_\w+ = (\d+)", HEADER, flags=re.M)]
     t.same(answers, [0] + calls.ORDER, "the header lists the answers in the order of decision")
     t.true(len(CALLS) >= len(PRESENT))
+
+
+@test(at_least=1)
+def rust_constants(t):
+    """The Rust crate has the header's constants."""
+    defined = re.findall(r"^#define NIQASTUL_(\w+) (?:UINT32_C\()?(\w+)", HEADER, flags=re.M)
+    source = (ROOT / "bindings" / "rust" / "src" / "lib.rs").read_text()
+    t.same(re.findall(r"^pub const (\w+): \w+ = (\w+);", source.replace("_", ""), flags=re.M),
+           [(name.replace("_", ""), number) for name, number in defined])
 
 
 @test(at_least=3)

@@ -26,6 +26,7 @@ from array import array
 ABSENT = 0xFFFFFFFF
 MAX_LIMIT = 16_000_000
 MAX_BLOCKS = 1_000
+MAX_EDGES = 16_000_000
 
 REASONS = {
     1: "no vertex, or more than 1,000,000",

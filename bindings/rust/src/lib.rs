@@ -1,8 +1,9 @@
 //! Elimination forests of graphs, grown, joined and divided by a proved library.
 //!
-//! A [`Net`] owns its tables, takes edges and is divided; [`relabel`] takes an edge list from vertex numbers to ranks. Below them,
-//! [`tables`] has the library's calls over slices that the caller lends, with no allocation. Every call is safe: the library checks all that
-//! its tables hold, and what is left, that a table to be written overlaps no other, is what `&mut` says.
+//! A [`Net`] owns its tables, takes edges, in one thread or in several, and is divided; [`relabel`] takes an edge list from vertex
+//! numbers to ranks. Below them, [`tables`] has the library's calls over slices that the caller lends, with no allocation. Every call is
+//! safe: the library checks all that its tables hold, and what is left, that a table to be written overlaps no other, is what `&mut`
+//! says.
 //!
 //! ```
 //! let mut net = niqastul::Net::new(4)?;
@@ -16,9 +17,22 @@
 // skipped: a pointer and its length stand on one line
 #[rustfmt::skip]
 pub mod tables;
+mod threads;
 
 /// The parent of a vertex that has none.
 pub const ABSENT: u32 = 0xFFFF_FFFF;
+
+/// The largest number of vertices of a net.
+pub const MAX_VERTICES: usize = 1_000_000;
+
+/// The largest number of edges of a list that is added or reported on.
+pub const MAX_EDGES: usize = 16_000_000;
+
+/// The largest total of the weights of a net.
+pub const MAX_TOTAL: u32 = 16_000_000;
+
+/// The largest limit on the weight that a group may carry.
+pub const MAX_LIMIT: u32 = 16_000_000;
 
 /// The largest number of blocks.
 pub const MAX_BLOCKS: u32 = 1_000;
@@ -27,7 +41,7 @@ pub const MAX_BLOCKS: u32 = 1_000;
 #[derive(Clone, Copy, Debug, PartialEq, Eq, Hash)]
 #[repr(u32)]
 pub enum Refusal {
-    /// No vertex, or more than 1,000,000.
+    /// No vertex, or more than [`MAX_VERTICES`].
     BadCount = 1,
     /// A table of the wrong length, or an edge list of odd length.
     WrongLength = 2,
@@ -47,7 +61,7 @@ pub enum Refusal {
     Loop = 5,
     /// A record's parent is neither absent nor above its vertex.
     BadParent = 7,
-    /// A total above 16,000,000.
+    /// A total above [`MAX_TOTAL`], or a list of more than [`MAX_EDGES`] edges.
     Full = 20,
     /// A weight above the limit, so that no cutting can hold it.
     TooHeavy = 22,

@@ -1,5 +1,5 @@
 //! Each call through the safe interface: document 01's nets on paper, every refusal that safe code can meet, tables left alone.
-use niqastul::{relabel, tables, Net, Refusal, ABSENT};
+use niqastul::{relabel, tables, Net, Refusal, ABSENT, MAX_VERTICES};
 
 fn net(vertices: usize, edges: &[u32]) -> Net {
     let mut net = Net::new(vertices).unwrap();
@@ -158,8 +158,8 @@ fn compared() {
 #[test]
 fn refusals() {
     assert_eq!(Net::new(0), Err(Refusal::BadCount));
-    assert_eq!(Net::new(1_000_001), Err(Refusal::BadCount));
-    assert!(Net::new(1_000_000).is_ok());
+    assert_eq!(Net::new(MAX_VERTICES + 1), Err(Refusal::BadCount));
+    assert!(Net::new(MAX_VERTICES).is_ok());
     let before = net(3, &[0, 1]);
     let mut after = before.clone();
     assert_eq!(after.add(&[0]), Err(Refusal::WrongLength));
@@ -185,4 +185,9 @@ fn lent_tables() {
     work.resize(2, 2);
     assert_eq!(tables::join(&mut parents, &mut weights, &[1, ABSENT], &[1, 0], &mut work), Err(Refusal::Full));
     assert_eq!(Refusal::Full.number(), 20);
+    // nets of unlike counts: the work table is as long as both together, and its length comes first
+    let (unlike, none) = ([ABSENT; 3], [0; 3]);
+    assert_eq!(tables::join(&mut parents, &mut weights, &unlike, &none, &mut work), Err(Refusal::WrongLength));
+    work.resize(2, 3);
+    assert_eq!(tables::join(&mut parents, &mut weights, &unlike, &none, &mut work), Err(Refusal::UnlikeCounts));
 }

@@ -1,0 +1,47 @@
+//! Adding a long list in several threads: each grows the net of a part of the list, and the library joins them. The law of joined
+//! forests has it that the tables are those of one call.
+
+use crate::{Net, Refusal};
+
+impl Net {
+    /// Adds edges as [`Net::add`] does, in up to so many threads: the same tables, or the same refusal and the net as it was. Each
+    /// thread has tables of its own, as long as the net's. A list of fewer than two edges to a vertex is added in one thread, because
+    /// joining the parts would take longer than growing them.
+    ///
+    /// Panics if the system cannot start a thread; the net is then as it was.
+    pub fn add_in_threads(&mut self, edges: &[u32], threads: usize) -> Result<(), Refusal> {
+        // no part has fewer edges than the net has vertices
+        let threads = threads.min(edges.len() / 2 / self.parents.len().max(1));
+        if threads < 2 {
+            return self.add(edges);
+        }
+        // a copy, so that the net is as it was if a part is refused; work tables are only room, and go along
+        let copy = Net { parents: self.parents.clone(), weights: self.weights.clone(), work: std::mem::take(&mut self.work) };
+        match grow(copy, edges, threads) {
+            Ok(net) => {
+                *self = net;
+                Ok(())
+            }
+            // a part or a join is refused exactly if the one call is, but perhaps for another reason
+            Err(_) => self.add(edges),
+        }
+    }
+}
+
+/// A net with edges added: those of the right part are grown in another thread, from no edges, and joined to the rest.
+fn grow(mut net: Net, edges: &[u32], threads: usize) -> Result<Net, Refusal> {
+    if threads < 2 {
+        net.add(edges)?;
+        return Ok(net);
+    }
+    let others = threads / 2;
+    let (left, right) = edges.split_at(edges.len() - edges.len() / 2 / threads * others * 2);
+    let empty = Net::new(net.parents.len())?;
+    let (left, right) = std::thread::scope(|scope| {
+        let right = scope.spawn(|| grow(empty, right, others));
+        (grow(net, left, threads - others), right.join().unwrap())
+    });
+    let mut whole = left?;
+    whole.join(&right?)?;
+    Ok(whole)
+}
