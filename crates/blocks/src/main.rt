@@ -1,19 +1,12 @@
 // The program `blocks`: it reads `marks.ord`, `ties.rec` and `want.rec`, and prints what a run on their bytes says.
+use files::MARKS;
+use files::TIES;
+use files::WANT;
 use libc::STDOUT_FILENO;
-use run::BLOCKS;
-use run::BOTH;
-use run::EDGE_ENDS;
-use run::EDGES;
 use run::TEXT;
-use run::VERTICES;
+ghost use mathlib.Core.Path.{_≡_};
+ghost use Rattle.files.specs.Files.{marksFront, tiesFront, wantFront};
 ghost use Rattle.io.specs.Counts.{Counts};
-
-// Each buffer is longer than the run can take, by a record or by a byte, so that a file that is too long is seen to be.
-const MARKS: usize = 4 * VERTICES + 4;
-
-const TIES: usize = 8 * EDGES + 8;
-
-const WANT: usize = 9;
 
 // Reads a file to the front of a buffer, as much of it as the buffer holds, and says how much. A file that cannot be opened counts as
 // empty.
@@ -29,37 +22,18 @@ fn read(path: &[u8], buffer: &mut [u8]) -> usize
     length
 }
 
-// Prints what a run says. The tables are the order, the edges by vertex number and by rank, the net, what a report writes, and its work
-// tables.
+// Prints what a run says.
 fn print(marks: &[u8], ties: &[u8], want: &[u8]) {
     let mut text = [0u8; TEXT];
-    let end = run::run(
-        marks,
-        ties,
-        want,
-        &mut [0u32; VERTICES],
-        &mut [0u32; EDGE_ENDS],
-        &mut [0u32; EDGE_ENDS],
-        &mut [0u32; VERTICES],
-        &mut [0u32; VERTICES],
-        &mut [0u32; VERTICES],
-        &mut [0u32; VERTICES],
-        &mut [0u32; VERTICES],
-        &mut [0u32; BLOCKS],
-        &mut [0u32; EDGES],
-        &mut [0u32; VERTICES],
-        &mut [0u32; VERTICES],
-        &mut [0u32; VERTICES],
-        &mut [0u32; VERTICES],
-        &mut [0u32; VERTICES],
-        &mut [0u32; VERTICES],
-        &mut [0u32; BOTH],
-        &mut text,
-    );
+    let end = run::run(marks, ties, want, &mut text);
     io::write_all(STDOUT_FILENO, &text[..end]);
 }
 
-fn main() {
+// Prints what a run on the files says. The buffers hold the fronts of the files, on which it says what it says of the whole files (the
+// law `run-front`).
+fn print_files()
+    ensures { λ _. do ⌜ ((← ⟦MARKS⟧ .entry) ≡ marksFront) × ((← ⟦TIES⟧ .entry) ≡ tiesFront) × ((← ⟦WANT⟧ .entry) ≡ wantFront) ⌝ }
+{
     let mut marks = [0u8; MARKS];
     let mut ties = [0u8; TIES];
     let mut want = [0u8; WANT];
@@ -67,4 +41,8 @@ fn main() {
     let ties_end = read(b"ties.rec", &mut ties);
     let want_end = read(b"want.rec", &mut want);
     print(&marks[..marks_end], &ties[..ties_end], &want[..want_end]);
+}
+
+fn main() {
+    print_files();
 }

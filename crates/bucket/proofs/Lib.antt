@@ -4,6 +4,9 @@ pub mod Below
 pub mod Sources
 pub mod Tallied
 pub mod Starts
+pub mod LowerEnds
 pub mod Storing
 pub mod Placing
 pub mod Filing
+pub mod Reading
+pub mod Weighed

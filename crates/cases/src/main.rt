@@ -1,12 +1,7 @@
 // Runs of `blocks` on byte strings: document 01's whole case with other limits, and refusals, of which the run gives the first that
-// applies. The tables are lent with sevens in them: nothing depends on what they held.
+// applies.
 use libc::STDOUT_FILENO;
-use run::BLOCKS;
-use run::BOTH;
-use run::EDGE_ENDS;
-use run::EDGES;
 use run::TEXT;
-use run::VERTICES;
 
 // The order and the edges of the whole case, a list that names a vertex 9, and one that before that names a vertex twice.
 const ORDER: [u8; 24] = *b"\x03\0\0\0\x00\0\0\0\x01\0\0\0\x02\0\0\0\x04\0\0\0\x05\0\0\0";
@@ -20,30 +15,8 @@ const TWICE: [u8; 16] = *b"\x01\0\0\0\x01\0\0\0\x09\0\0\0\x09\0\0\0";
 
 // The name of a case, and what a run prints.
 fn show(name: &[u8], marks: &[u8], ties: &[u8], want: &[u8]) {
-    let mut text = [7u8; TEXT];
-    let end = run::run(
-        marks,
-        ties,
-        want,
-        &mut [7u32; VERTICES],
-        &mut [7u32; EDGE_ENDS],
-        &mut [7u32; EDGE_ENDS],
-        &mut [7u32; VERTICES],
-        &mut [7u32; VERTICES],
-        &mut [7u32; VERTICES],
-        &mut [7u32; VERTICES],
-        &mut [7u32; VERTICES],
-        &mut [7u32; BLOCKS],
-        &mut [7u32; EDGES],
-        &mut [7u32; VERTICES],
-        &mut [7u32; VERTICES],
-        &mut [7u32; VERTICES],
-        &mut [7u32; VERTICES],
-        &mut [7u32; VERTICES],
-        &mut [7u32; VERTICES],
-        &mut [7u32; BOTH],
-        &mut text,
-    );
+    let mut text = [0u8; TEXT];
+    let end = run::run(marks, ties, want, &mut text);
     io::write_all(STDOUT_FILENO, name);
     io::write_all(STDOUT_FILENO, b":\n");
     io::write_all(STDOUT_FILENO, &text[..end]);

@@ -12,10 +12,11 @@ use lib.Dec.{eqb}
 use lib.ListN.{getD}
 use borrow.Author.Tests.{eq-eqb, eqb-true}
 use Rattle.game.specs.Edge.{Edge, _─_, lower}
-use Rattle.game.proofs.Conn.{Linked, forth, back}
+use Rattle.game.specs.Graph.{Linked, forth, back}
 use Rattle.game.proofs.Bools.{or-cases, or-left, or-right}
-use Rattle.partition.proofs.Lists.{test-cases}
-use Rattle.cost.specs.Figures.{filtered, edgeBlock, edgeBlocks, touches, blocksAt}
+use Rattle.groups.proofs.Lists.{test-cases}
+use Rattle.cost.specs.Figures.{edgeBlock, edgeBlocks, touches, blocksAt}
+use Rattle.game.specs.Table.{filtered}
 
 module _ {A : Type 0} (t : A → Bool) where
   pub filtered-take : {x : A} (xs : List A) → t x ≡ true → filtered t (x ∷ xs) ≡ x ∷ filtered t xs

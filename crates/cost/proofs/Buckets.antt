@@ -15,16 +15,18 @@ use borrow.Author.Tests.{eq-eqb, eqb-true}
 use Rattle.game.specs.Table.{tabulate, count, one-if}
 use Rattle.game.specs.Edge.{Edge, lower as edgeLower}
 use Rattle.game.specs.Net.{weight, weights}
-use Rattle.game.proofs.Conn.{Linked}
+use Rattle.game.specs.Graph.{Linked}
 use Rattle.game.proofs.Tables.{tabulate-unique}
+use Rattle.game.proofs.Weights.{weight-count}
 use Rattle.refusal.specs.Limits.{maxVertices}
 use Rattle.bucket.specs.Ends.{below}
-use Rattle.bucket.specs.Filed.{Filed}
+use Rattle.bucket.specs.Filed.{begin, bucketOf, Filed}
 use Rattle.bucket.proofs.Below.{below-zero, below-mono}
-use Rattle.partition.specs.Divide.{maxBlocks}
-use Rattle.partition.proofs.Lists.{test-cases}
+use Rattle.bucket.proofs.Reading.{filed-begin, filed-end, filed-holds, filed-has}
+use Rattle.packing.specs.Pack.{maxBlocks}
+use Rattle.groups.proofs.Lists.{test-cases}
 use Rattle.cost.specs.Figures.{different, blocksAt, blockCount}
-use Rattle.cost.specs.Work.{ownBlock, metBlocks, Fresh, Stamped, Meets, begin, bucketOf, Bucketed, countIn}
+use Rattle.cost.specs.Steps.{ownBlock, metBlocks, Fresh, Stamped, Meets, Bucketed, countIn}
 use Rattle.cost.proofs.Blocks.{block-at, own-at, lower-at}
 use Rattle.cost.proofs.Stamps.{different-same}
 
@@ -122,12 +124,10 @@ count-found t (x ∷ xs) h =
 
 -- a vertex has a weight if an edge leads up from it
 weight-edge : (es : List Edge) (y : ℕ) → 0 < weight es y → (e : Edge) × List·Memᴰ e es × (edgeLower e ≡ y)
-unfolding weight
-weight-edge es y h = let (e, m, t) = count-found (λ (e : Edge). eqb (edgeLower e) y) es h in (e, m, eqb-true (edgeLower e) y t)
+weight-edge es y h = let (e, m, t) = count-found (λ (e : Edge). eqb (edgeLower e) y) es (rw weight-count at h) in (e, m, eqb-true (edgeLower e) y t)
 
 edge-weight : (es : List Edge) (y : ℕ) {e : Edge} → List·Memᴰ e es → edgeLower e ≡ y → 0 < weight es y
-unfolding weight
-edge-weight es y {e} m l = count-some (λ (e : Edge). eqb (edgeLower e) y) m (eq-eqb (edgeLower e) y l)
+edge-weight es y {e} m l = rw weight-count (count-some (λ (e : Edge). eqb (edgeLower e) y) m (eq-eqb (edgeLower e) y l))
 
 -- a vertex's own block
 own-in : (w b : ℕ) {j : ℕ} → List·Memᴰ j (ownBlock w b) → (0 < w) × (j ≡ b)
@@ -152,31 +152,23 @@ in-map f (x ∷ xs) (suc i) h = List·Memᴰ·tail (in-map f xs i (omega arith))
 
 -- Edges that are filed by their upper end.
 module _ {n : ℕ} {es : List Edge} {ends lower : List ℕ} (f : Filed n es ends lower) where
-  begin-below : (y : ℕ) → y ≤ n → begin ends y ≡ below y es
-  unfolding begin
-  begin-below zero h = sym (below-zero es)
-  begin-below (suc y) h = f .end-at y (omega arith) ∙ ap (λ (v : ℕ). below v es) (add-one y)
-
-  end-below : (y : ℕ) → y < n → getD ends y 0 ≤ below n es
-  end-below y h = omega (arith, f .end-at y h, below-mono (y + 1) n es (omega arith))
-
   -- every place up to the end of y's bucket holds a vertex
   inside : (y i : ℕ) → y < n → i < below (y + 1) es → getD lower i 0 < n
-  inside y i h l = by-cases (decLt i (below y es)) (earlier y h) (λ (o : i < below y es → ⊥). omega (arith, f .holds y i h (omega arith) l .0))
+  inside y i h l = by-cases (decLt i (below y es)) (earlier y h) (λ (o : i < below y es → ⊥). omega (arith, filed-holds f y i h (omega arith) l .0))
     where
       earlier : (y : ℕ) → y < n → i < below y es → getD lower i 0 < n
       earlier zero h l = absurd (omega (arith, below-zero es))
       earlier (suc y) h l =
           by-cases (decLt i (below y es)) (earlier y (omega arith))
-          (λ (o : i < below y es → ⊥). omega (arith, f .holds y i (omega arith) (omega arith) (rw (← add-one y) at l) .0))
+          (λ (o : i < below y es → ⊥). omega (arith, filed-holds f y i (omega arith) (omega arith) (rw (← add-one y) at l) .0))
 
   pub filed-bucketed : {weights block table stamps : List ℕ} → n ≤ maxVertices → length weights ≡ n → length block ≡ n → length table ≡ n
       → ((x : ℕ) → x < n → getD block x 0 < length stamps) → length stamps ≤ maxBlocks → Fresh stamps 1
       → Bucketed ends lower weights block table stamps
   filed-bucketed few weighed blocked table blocks small fresh = record {
     few = omega (arith, f .long);
-    rising = λ y h. let l : y < n = omega (arith, f .long) in omega (arith, begin-below y (omega arith), f .end-at y l, below-mono y (y + 1) es (omega arith));
-    room = λ y h. let l : y < n = omega (arith, f .long) in omega (arith, end-below y l, f .fits);
+    rising = λ y h. let l : y < n = omega (arith, f .long) in omega (arith, filed-begin f y (omega arith), f .end-at y l, below-mono y (y + 1) es (omega arith));
+    room = λ y h. let l : y < n = omega (arith, f .long) in omega (arith, filed-end f y l, f .fits);
     neighbours = λ y i h l. let g : y < n = omega (arith, f .long) in omega (arith, inside y i g (omega (arith, f .end-at y g)), f .long);
     weighed = weighed ∙ sym (f .long);
     blocked = blocked ∙ sym (f .long);
@@ -193,7 +185,7 @@ module _ {n : ℕ} {es : List Edge} {ends lower : List ℕ} (f : Filed n es ends
 
     bucket-length : length bucket ≡ getD ends y 0 - begin ends y
     unfolding bucket bucketOf
-    bucket-length = part-length (begin ends y) (getD ends y 0) lower (omega (arith, end-below y h, f .fits))
+    bucket-length = part-length (begin ends y) (getD ends y 0) lower (omega (arith, filed-end f y h, f .fits))
 
     bucket-entry : (i : ℕ) → i < length bucket → getD bucket i 0 ≡ getD lower (begin ends y + i) 0
     unfolding bucket bucketOf
@@ -212,7 +204,7 @@ module _ {n : ℕ} {es : List Edge} {ends lower : List ℕ} (f : Filed n es ends
         lower-one : List·Memᴰ j (map (λ (u : ℕ). getD block u 0) bucket) → List·Memᴰ j (blocksAt block es y)
         lower-one i =
             let (k, l, q) = map-in (λ (u : ℕ). getD block u 0) bucket i in
-            let g = f .holds y (begin ends y + k) h (omega (arith, begin-below y (omega arith))) (omega (arith, bucket-length, f .end-at y h)) in
+            let g = filed-holds f y (begin ends y + k) h (omega (arith, filed-begin f y (omega arith))) (omega (arith, bucket-length, f .end-at y h)) in
             rw (q, bucket-entry k l) (lower-at block es y (g .0) (g .1))
 
     at-met : (j : ℕ) → List·Memᴰ j (blocksAt block es y) → List·Memᴰ j (metBlocks block y (getD weights y 0) bucket)
@@ -226,10 +218,10 @@ module _ {n : ℕ} {es : List Edge} {ends lower : List ℕ} (f : Filed n es ends
 
         lower-one : (u : ℕ) × (u < y) × Linked es u y × (j ≡ getD block u 0) → List·Memᴰ j (ownBlock (getD weights y 0) (getD block y 0) ++ map (λ (u : ℕ). getD block u 0) bucket)
         lower-one (u, l, e, q) =
-            let (i, a, b, r) = f .has u y e l in
+            let (i, a, b, r) = filed-has f u y e l in
             let k : ℕ = i - begin ends y in
-            let g : k < length bucket = omega (arith, bucket-length, begin-below y (omega arith), f .end-at y h) in
-            let s : begin ends y + k ≡ i = omega (arith, begin-below y (omega arith)) in
+            let g : k < length bucket = omega (arith, bucket-length, filed-begin f y (omega arith), f .end-at y h) in
+            let s : begin ends y + k ≡ i = omega (arith, filed-begin f y (omega arith)) in
             Memᴰ·append-right (ownBlock (getD weights y 0) (getD block y 0))
             (subst (λ (v : ℕ). List·Memᴰ v (map (λ (u : ℕ). getD block u 0) bucket))
             (ap (λ (v : ℕ). getD block v 0) (bucket-entry k g ∙ ap (λ (v : ℕ). getD lower v 0) s ∙ r) ∙ sym q)

@@ -21,9 +21,9 @@ use Rattle.game.proofs.Tables.{tabulate-ext}
 use Rattle.refusal.specs.Limits.{maxVertices}
 use Rattle.refusal.specs.Refusal.{firstFault}
 use Rattle.bucket.specs.Filed.{Filed}
-use Rattle.partition.specs.Divide.{maxBlocks}
+use Rattle.packing.specs.Pack.{maxBlocks}
 use Rattle.cost.specs.Figures.{blockCount}
-use Rattle.cost.specs.Work.{Fresh, Bucketed, countIn, Countable}
+use Rattle.cost.specs.Steps.{Fresh, Bucketed, countIn, Countable}
 use Rattle.cost.proofs.Buckets.{filed-bucketed, count-filed}
 
 -- stamps that are all 0 are older than any

@@ -9,10 +9,10 @@ use Rattle.game.specs.Table.{tabulate}
 use Rattle.game.specs.Edge.{Edge, lower}
 use Rattle.game.specs.Net.{Net}
 use Rattle.game.proofs.Tables.{tabulate-entry, tabulate-ext}
-use Rattle.partition.specs.Cut.{cut, top}
-use Rattle.partition.specs.Pack.{blockOf}
+use Rattle.groups.specs.Cut.{cut, top}
+use Rattle.packing.specs.Pack.{blockOf}
 use Rattle.partition.specs.Divide.{divided}
-use Rattle.partition.proofs.BlockLoads.{block-inside}
+use Rattle.packing.proofs.BlockLoads.{block-inside}
 use Rattle.cost.specs.Figures.{edgeBlock}
 
 module _ (net : Net) (B k : ℕ) where

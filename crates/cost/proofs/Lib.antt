@@ -1,8 +1,9 @@
 -- Laws of the figures, by subject. Nothing here needs to be believed: it is all proved.
-pub mod Totals
+pub mod Sums
 pub mod Blocks
 pub mod Divided
 pub mod VolumeBound
+pub mod Dealt
 pub mod Laid
 pub mod Stamps
 pub mod Buckets

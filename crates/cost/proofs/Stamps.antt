@@ -17,12 +17,12 @@ use Rattle.game.specs.Table.{tabulate, member}
 use Rattle.game.proofs.Bools.{or-right}
 use Rattle.game.proofs.Tables.{member-in, in-member, tabulate-length}
 use Rattle.bucket.proofs.Counts.{count-le, count-none}
-use Rattle.partition.proofs.Lists.{stretch, sum-agree}
-use Rattle.partition.proofs.Sums.{only, total, total-add, total-here}
+use Rattle.groups.proofs.Lists.{stretch, sum-agree}
+use Rattle.groups.proofs.Sums.{only, total, total-add, total-here}
 use Rattle.reach.proofs.Counts.{bool-iff, count-ext}
 use Rattle.cost.specs.Figures.{different}
-use Rattle.cost.specs.Work.{ownBlock, metBlocks, Fresh, Stamped}
-use Rattle.cost.proofs.Totals.{count-total}
+use Rattle.cost.specs.Steps.{ownBlock, metBlocks, Fresh, Stamped}
+use Rattle.cost.proofs.Sums.{count-total}
 
 member-last : (j b : ℕ) (bs : List ℕ) → member j (bs ++ b ∷ []) ≡ (member j bs || eqb j b)
 unfolding member

@@ -16,8 +16,8 @@ use Rattle.game.specs.Net.{reach}
 use Rattle.game.proofs.Sound.{getD-default}
 use Rattle.game.proofs.Tables.{tabulate-length, tabulate-entry, tabulate-ext}
 use Rattle.cost.specs.Figures.{blockCount, isCut, bound, volume}
-use Rattle.cost.specs.Work.{boundTerm, boundBy, volumeTerm, volumeBy}
-use Rattle.cost.proofs.Totals.{sum-next}
+use Rattle.cost.specs.Steps.{boundTerm, boundBy, volumeTerm, volumeBy}
+use Rattle.cost.proofs.Sums.{sum-next}
 
 -- a vertex that is its own top and has a parent adds its reach, any other adds nothing
 module _ (x parent top reach : ℕ) where

@@ -22,24 +22,23 @@ use Rattle.game.specs.Edge.{Edge, lower}
 use Rattle.game.specs.Game.{absent, forest}
 use Rattle.game.specs.Tree.{ancestors, under}
 use Rattle.game.specs.Net.{Net, netOf, enters, reach}
-use Rattle.game.proofs.Conn.{Linked}
+use Rattle.game.specs.Graph.{Linked, Proper}
 use Rattle.game.proofs.Bools.{or-left, or-right, both-and}
 use Rattle.game.proofs.Tables.{member-in, in-member, tabulate-entry}
-use Rattle.game.proofs.Proper.{Proper}
 use Rattle.game.proofs.Sound.{Sound}
 use Rattle.game.proofs.Links.{link-inv}
 use Rattle.game.proofs.Forest.{forest-length, forest-sound}
 use Rattle.game.proofs.Ancestors.{ancestor-above, edge-ends}
 use Rattle.refusal.specs.Limits.{maxVertices}
-use Rattle.partition.specs.Cut.{top}
-use Rattle.partition.proofs.Lists.{test-cases, stretch, stretch-in, in-stretch, sum-entry-in, sum-nought}
-use Rattle.partition.proofs.Sums.{only, total, total-add, total-swap}
-use Rattle.partition.proofs.Groups.{top-or, top-cut, top-of, top-between}
+use Rattle.groups.specs.Cut.{top}
+use Rattle.groups.proofs.Lists.{test-cases, stretch, stretch-in, in-stretch, sum-entry-in, sum-nought}
+use Rattle.groups.proofs.Sums.{only, total, total-add, total-swap}
+use Rattle.groups.proofs.Groups.{top-or, top-cut, top-of, top-between}
 use Rattle.reach.proofs.Higher.{linked-enters}
 use Rattle.cost.specs.Figures.{blocksAt, different, blockCount, isCut, bound, volume, boundOf, volumeOf}
 use Rattle.cost.proofs.Blocks.{block-at}
 use Rattle.cost.proofs.Divided.{cuts, packed, divided-top, divided-block}
-use Rattle.cost.proofs.Totals.{table-total, count-total, total-le, total-one, members-count}
+use Rattle.cost.proofs.Sums.{table-total, count-total, total-le, total-one, members-count}
 
 -- every vertex is under the top of its group
 under-top : (p : List ℕ) (cuts : ℕ → Bool) (x : ℕ) → under p (top p cuts x) x ≡ true

@@ -11,20 +11,17 @@ use mathlib.Core.List.{List, [], _∷_, map}
 use Prim.Native.Nat.{ℕ, _-_}
 use lib.Dec.{eqb}
 use lib.ListN.{length, getD}
-use Rattle.game.specs.Table.{tabulate, sum, member, count}
-use Rattle.game.specs.Edge.{Edge, _─_, lower}
+use Rattle.game.specs.Table.{tabulate, sum, member, count, filtered}
+use Rattle.game.specs.Edge.{Edge, _─_}
 use Rattle.game.specs.Game.{absent}
-use Rattle.game.specs.Net.{Net, reach}
+use Rattle.game.specs.Net.{Net, owner, reach}
 use Rattle.partition.specs.Divide.{divided}
+use Rattle.cost.specs.declared.Totals.{Totals}
 
--- the entries that pass the test, in order
-unfoldable pub filtered : {A : Type 0} → (A → Bool) → List A → List A
-filtered t [] = []
-filtered t (x ∷ xs) = cond (t x) (x ∷ filtered t xs) (filtered t xs)
-
--- "A tie belongs to the block of its lower end."
+-- "A tie belongs to the block of its lower end": of the vertex that it is charged to
 unfoldable pub edgeBlock : List ℕ → Edge → ℕ
-edgeBlock block e = getD block (lower e) 0
+unfolding owner
+edgeBlock block e = getD block (owner e) 0
 
 unfoldable pub edgeBlocks : List ℕ → List Edge → List ℕ
 edgeBlocks block es = map (edgeBlock block) es
@@ -63,3 +60,10 @@ boundOf net es B k = bound (net .parents) es (divided net B k .top)
 
 unfoldable pub volumeOf : Net → List Edge → ℕ → ℕ → ℕ
 volumeOf net es B k = volume (length (net .parents)) k (divided net B k .block) es
+
+-- what a report answers: the code's own record of the two
+abbrev pub totals : (bound volume : ℕ) → Totals
+totals b v = record { bound = b; volume = v }
+
+unfoldable pub totalsOf : Net → List Edge → ℕ → ℕ → Totals
+totalsOf net es B k = totals (boundOf net es B k) (volumeOf net es B k)

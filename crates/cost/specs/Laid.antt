@@ -1,31 +1,79 @@
--- The blocks of a divided net as nets of their own, laid together again.
+-- The blocks of a divided net as nets of their own, laid together again by the calls.
 --
--- An edge belongs to one block, so the edges of the blocks make the list of edges up between them. Joined by document 01's call Join,
--- the nets of the blocks' edges give back the net (proofs/Laid).
+-- An edge belongs to one block, so the edges of the blocks make the list of edges up between them. A host starts a net for each block
+-- and adds the block's own edges to it, starts one net more, and joins the blocks' nets into that, one after the other: every call is
+-- accepted, and the net is there again. The load of a block is what its edges are charged.
 -- Assumes nothing.
 use mathlib.Core.Path.{_≡_}
+use mathlib.Core.Bool.{Bool, true, false, _&&_}
 use mathlib.Core.List.{List, [], _∷_, map, List·Permᴰ}
-use Prim.Native.Nat.{ℕ, _<_}
+use Prim.Native.Nat.{ℕ, _+_, _<_}
 use lib.Dec.{eqb}
 use lib.ListN.{length, getD}
-use Rattle.game.specs.Table.{tabulate}
-use Rattle.game.specs.Edge.{Edge}
-use Rattle.game.specs.Net.{Net, netOf}
-use Rattle.forest.specs.Join.{joined}
+use Rattle.game.specs.Table.{tabulate, filtered}
+use Rattle.game.specs.Edge.{Edge, edges}
+use Rattle.game.specs.Net.{Net, charges}
+use Rattle.refusal.specs.Refusal.{odd}
+use Rattle.refusal.specs.Verdict.{isAccepted}
+use Rattle.refusal.specs.Outcome.{Done}
+use Rattle.growth.specs.Work.{Work, Growing, growing, badWork}
+use Rattle.starting.specs.Start.{startOutcome}
+use Rattle.adding.specs.Add.{addOutcome}
+use Rattle.joining.specs.Join.{joinOutcome}
 use Rattle.partition.specs.Divide.{Tables}
-use Rattle.cost.specs.Figures.{filtered, edgeBlock}
+use Rattle.cost.specs.Figures.{edgeBlock}
 
 -- the edges of block j
 unfoldable pub edgesOf : List ℕ → List Edge → ℕ → List Edge
 edgesOf block es j = filtered (λ (e : Edge). eqb (edgeBlock block e) j) es
 
--- the nets of some lists of edges, joined one after the other
-unfoldable pub laid : ℕ → List (List Edge) → Net
-laid n [] = netOf n []
-laid n (es ∷ lists) = joined (laid n lists) (netOf n es)
+-- what is lent for a block: its edges as raw numbers, the tables of its net, holding anything, and work tables for adding and joining
+pub record Lot : Type 0 where
+  pub list : List ℕ
+  pub tables : Net
+  pub adding : Work
+  pub joining : Work
 
--- The blocks, laid together again, are the net: joined in any order, the nets of the blocks' edges have its parents and its weights; and
--- the load of a block is the number of its edges.
+-- it is lent for these edges among n vertices, with tables of the lengths that the calls need
+pub record LotOf (n : ℕ) (es : List Edge) (lot : Lot) : Type 0 where
+  pub reads : edges (lot .list) ≡ es
+  pub whole : odd (lot .list) ≡ false
+  pub parents : length (lot .tables .parents) ≡ n
+  pub weights : length (lot .tables .weights) ≡ n
+  pub adding : badWork n (n + length es) (lot .adding) ≡ false
+  pub joining : badWork n (n + n) (lot .joining) ≡ false
+
+pub data Lots (n : ℕ) : List (List Edge) → List Lot → Type 0 where
+  none : Lots n [] []
+  more : {es : List Edge} {lists : List (List Edge)} {lot : Lot} {lots : List Lot} → LotOf n es lot → Lots n lists lots → Lots n (es ∷ lists) (lot ∷ lots)
+
+-- whether every call so far was accepted, and the net that they left
+pub record Laid : Type 0 where
+  pub accepted : Bool
+  pub net : Net
+
+-- a call's outcome after what was laid: it counts as accepted if all before it were too
+unfoldable pub after : {A : Type 0} → (accepted : Bool) → Done A → (A → Net) → Laid
+after accepted o net = record { accepted = accepted && isAccepted (o .verdict); net = net (o .tables) }
+
+unfoldable pub started : Net → Laid
+started tables = after true (startOutcome tables) (λ (net : Net). net)
+
+-- the net of a block: started, and its edges added
+unfoldable pub grownLot : Lot → Laid
+grownLot lot = let s : Laid = started (lot .tables) in after (s .accepted) (addOutcome (growing (s .net) (lot .adding)) (lot .list)) (λ (g : Growing). g .net)
+
+-- the nets of lots joined into a net that was started, the last lot first
+unfoldable pub laid : Net → List Lot → Laid
+laid tables [] = started tables
+laid tables (lot ∷ lots) =
+    let one : Laid = laid tables lots in
+    let other : Laid = grownLot lot in
+    after (one .accepted && other .accepted) (joinOutcome (growing (one .net) (lot .joining)) (other .net)) (λ (g : Growing). g .net)
+
+-- The blocks, laid together again in any order, are the net; and each block's load is what its edges are charged.
 pub record Together (of : Net) (es : List Edge) (k : ℕ) (division : Tables) : Type 0 where
-  pub net : (js : List ℕ) → List·Permᴰ js (tabulate k (λ j. j)) → laid (length (of .parents)) (map (edgesOf (division .block) es) js) ≡ of
-  pub loads : (j : ℕ) → j < k → getD (division .blockLoads) j 0 ≡ length (edgesOf (division .block) es j)
+  pub net : (js : List ℕ) → List·Permᴰ js (tabulate k (λ j. j)) → (tables : Net) → length (tables .parents) ≡ length (of .parents) → length (tables .weights) ≡ length (of .parents)
+      → (lots : List Lot) → Lots (length (of .parents)) (map (edgesOf (division .block) es) js) lots
+      → laid tables lots ≡ record { accepted = true; net = of }
+  pub loads : (j : ℕ) → j < k → getD (division .blockLoads) j 0 ≡ charges (edgesOf (division .block) es j)

@@ -3,7 +3,8 @@
 // The edges of a vertex that lead up are all of its own block; those that lead down are of the blocks of its lower neighbours. So with
 // the edges filed by their upper end, one pass over each vertex's bucket tells its block count. A block is met by a vertex when it has
 // the vertex's stamp.
-use net::Forest;
+use net::Net;
+use table::wide;
 ghost use mathlib.Core.Path.{_≡_};
 ghost use mathlib.Core.Bool.{cond};
 ghost use Prim.Native.Nat.{_+_, _<_};
@@ -13,13 +14,7 @@ ghost use Rattle.game.specs.Edge.{edges as edgesOf, _─_, lower as lowerOf};
 ghost use Rattle.game.specs.Table.{tabulate};
 ghost use Rattle.refusal.specs.Refusal.{firstFault};
 ghost use Rattle.cost.specs.Figures.{edgeBlocks};
-ghost use Rattle.cost.specs.Work.{ownBlock, metBlocks, Fresh, Stamped, Meets, Bucketed, countIn, Countable, CountedBlocks};
-
-fn wide(x: u32) -> usize
-    ensures { λ r. ⌜ r ≡ x ⌝ }
-{
-    x as usize
-}
+ghost use Rattle.cost.specs.Steps.{ownBlock, metBlocks, Fresh, Stamped, Meets, Bucketed, countIn, Countable, CountedBlocks};
 
 // Stamps a block. Answers 1 if it did not have the stamp, else 0.
 fn meet(block: u32, stamp: u32, stamps: &mut [u32]) -> u32
@@ -98,7 +93,7 @@ pub fn write_block_counts(
     requires { ⌜ Countable (now edges) (now weights) (now block) (now «block_count») (now ends) (now lower) ⌝ }
     ensures { λ _. ⌜ CountedBlocks (now (edges .entry)) (now (block .entry)) (now (ends .entry)) (now (lower .entry)) (now («block_count» .exit)) (now (ends .exit)) (now (lower .exit)) ⌝ }
 {
-    table::fill(block_count, Forest::ABSENT);
+    table::fill(block_count, Net::ABSENT);
     bucket::file_edges(block_count, edges, ends, lower);
     let mut stamps = [0u32; STAMPS];
     count_blocks(weights, block, ends, lower, block_count, &mut stamps);

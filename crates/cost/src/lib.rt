@@ -7,3 +7,9 @@ pub use counting::write_block_counts;
 pub use counting::write_edge_blocks;
 pub use summing::bound;
 pub use summing::volume;
+
+// What a report answers of a division: the bound and the volume of communication.
+pub struct Totals {
+    pub bound: u64,
+    pub volume: u64,
+}

@@ -1,5 +1,6 @@
 // The two figures that a report answers, summed from its tables. Each sums up to 1,000,000 numbers of 32 bits, so they take 64.
-use net::Forest;
+use net::Net;
+use table::amount;
 ghost use mathlib.Core.Path.{_≡_};
 ghost use mathlib.Core.Bool.{not, _&&_, cond};
 ghost use Prim.Native.Nat.{_-_, _≤_};
@@ -7,13 +8,7 @@ ghost use lib.Dec.{eqb};
 ghost use lib.ListN.{length};
 ghost use Rattle.game.specs.Game.{absent};
 ghost use Rattle.refusal.specs.Limits.{maxVertices};
-ghost use Rattle.cost.specs.Work.{boundBy, volumeBy};
-
-fn wide(x: u32) -> u64
-    ensures { λ r. ⌜ r ≡ x ⌝ }
-{
-    x as u64
-}
+ghost use Rattle.cost.specs.Steps.{boundBy, volumeBy};
 
 // What vertex x adds to the bound: its reach, if it is cut.
 fn cut_reach(x: usize, parent: u32, top: u32, reach: u32) -> u64
@@ -22,10 +17,10 @@ fn cut_reach(x: usize, parent: u32, top: u32, reach: u32) -> u64
     if top as usize != x {
         return 0;
     }
-    if parent == Forest::ABSENT {
+    if parent == Net::ABSENT {
         return 0;
     }
-    wide(reach)
+    amount(reach)
 }
 
 // The bound: the sum of the reaches of the cut vertices.
@@ -49,7 +44,7 @@ fn shared(count: u32) -> u64
     if count == 0 {
         return 0;
     }
-    wide(count - 1)
+    amount(count - 1)
 }
 
 // The volume: the sum of the block counts, less one each.

@@ -1,22 +1,25 @@
--- A report's reply, handed over case by case.
+-- A report's verdict, handed over case by case.
 -- Assumes nothing.
 use mathlib.Core.Path.{_≡_, sym, ap, _∙_}
 use Prim.Native.Nat.{ℕ}
+use Rattle.refusal.specs.Verdict.{number}
+use Rattle.refusal.specs.Outcome.{Outcome, ended}
+use Rattle.cost.specs.declared.Totals.{Totals}
 use Rattle.report.specs.declared.ReportAnswer.{ReportAnswer}
 use Rattle.report.specs.declared.ReportAnswer.the-variants.{Accepted, Refused}
-use Rattle.report.specs.Answer.{reply, answered}
-use Rattle.report.specs.Report.{Lent, ReportOutcome, reported as outcome}
-use Rattle.exports.specs.Reported.{Cells, cellsOf, reported, told, handed}
+use Rattle.report.specs.Answer.{verdict}
+use Rattle.report.specs.Report.{Lent}
+use Rattle.exports.specs.Returned.{reported, told, handedTotals}
 
-module _ {t : Lent} {o : ReportOutcome} (was : Cells) (r : ReportAnswer) (is : outcome (reply r) t ≡ o) where
-  handed-as : reported (answered (reply r)) (told (reply r) was) t ≡ handed was o
-  unfolding handed
-  handed-as = ap (handed was) is
+module _ {t : Lent} {o : Outcome Totals Lent} (was : Totals) (r : ReportAnswer) (is : ended (verdict r) t ≡ o) where
+  handed-as : reported (number (verdict r)) (told (verdict r) was) t ≡ handedTotals was o
+  unfolding handedTotals
+  handed-as = ap (handedTotals was) is
 
-  pub handed-accepted : {b v : ℕ} → r ≡ Accepted b v → reported 0 (cellsOf b v) t ≡ handed was o
-  unfolding reply answered told
-  handed-accepted e = sym (ap (λ (x : ReportAnswer). reported (answered (reply x)) (told (reply x) was) t) e) ∙ handed-as
+  pub handed-accepted : {totals : Totals} → r ≡ Accepted totals → reported 0 totals t ≡ handedTotals was o
+  unfolding verdict number told
+  handed-accepted e = sym (ap (λ (x : ReportAnswer). reported (number (verdict x)) (told (verdict x) was) t) e) ∙ handed-as
 
-  pub handed-refused : {k : ℕ} → r ≡ Refused k → reported k was t ≡ handed was o
-  unfolding reply answered told
-  handed-refused e = sym (ap (λ (x : ReportAnswer). reported (answered (reply x)) (told (reply x) was) t) e) ∙ handed-as
+  pub handed-refused : {k : ℕ} → r ≡ Refused k → reported k was t ≡ handedTotals was o
+  unfolding verdict number told
+  handed-refused e = sym (ap (λ (x : ReportAnswer). reported (number (verdict x)) (told (verdict x) was) t) e) ∙ handed-as

@@ -1,2 +1,2 @@
--- What a report hands to its caller.
-pub mod Reported
+-- What a call hands to a caller in C.
+pub mod Returned

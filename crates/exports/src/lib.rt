@@ -2,30 +2,19 @@
 // its answer as a number, 0 if it was accepted. A table passes as a pointer and a length. Nothing is checked at this boundary, so no
 // function here asks anything of its caller that its types do not say: tables are readable or writable over their length, and one
 // that is written overlaps no other.
-use refusal::Answer;
 use report::ReportAnswer;
 ghost use mathlib.Core.Path.{_≡_};
 ghost use Rattle.game.specs.Net.{net};
-ghost use Rattle.refusal.specs.Answer.{number};
-ghost use Rattle.refusal.specs.Outcome.{ended};
 ghost use Rattle.growth.specs.Work.{growing, workOf};
-ghost use Rattle.forest.specs.Start.{startOutcome};
-ghost use Rattle.forest.specs.Add.{addOutcome};
-ghost use Rattle.forest.specs.Join.{joinOutcome};
+ghost use Rattle.starting.specs.Start.{startOutcome};
+ghost use Rattle.adding.specs.Add.{addOutcome};
+ghost use Rattle.joining.specs.Join.{joinOutcome};
 ghost use Rattle.linkfile.specs.LinkFile.{saveOutcome, readOutcome};
 ghost use Rattle.partition.specs.Divide.{tables as divisionOf, divideOutcome};
 ghost use Rattle.relabel.specs.Relabel.{tables, relabelOutcome};
 ghost use Rattle.report.specs.Report.{written, lent, reportOutcome};
-ghost use Rattle.exports.specs.Reported.{cellsOf, reported, handed};
-
-fn code(answer: Answer) -> u32
-    ensures { λ r. ⌜ r ≡ number answer ⌝ }
-{
-    match answer {
-        Answer::Accepted => 0,
-        Answer::Refused(number) => number,
-    }
-}
+ghost use Rattle.cost.specs.Figures.{totals};
+ghost use Rattle.exports.specs.Returned.{returned, handed, reported, handedTotals};
 
 #[no_mangle]
 pub extern "C" fn niqastul_relabel(
@@ -34,16 +23,20 @@ pub extern "C" fn niqastul_relabel(
     out: &mut [u32],
     inverse: &mut [u32],
 ) -> u32
-    ensures { λ r. ⌜ ended r (tables (now (out .exit)) (now (inverse .exit))) ≡ relabelOutcome (now (order .entry)) (now (edges .entry)) (tables (now (out .entry)) (now (inverse .entry))) ⌝ }
+    ensures { λ r. ⌜
+        returned r (tables (now (out .exit)) (now (inverse .exit)))
+        ≡ handed (relabelOutcome (now (order .entry)) (now (edges .entry)) (tables (now (out .entry)) (now (inverse .entry)))) ⌝ }
 {
-    code(relabel::relabel(order, edges, out, inverse))
+    refusal::code(relabel::relabel(order, edges, out, inverse))
 }
 
 #[no_mangle]
 pub extern "C" fn niqastul_start(parents: &mut [u32], weights: &mut [u32]) -> u32
-    ensures { λ r. ⌜ ended r (net (now (parents .exit)) (now (weights .exit))) ≡ startOutcome (net (now (parents .entry)) (now (weights .entry))) ⌝ }
+    ensures { λ r. ⌜
+        returned r (net (now (parents .exit)) (now (weights .exit)))
+        ≡ handed (startOutcome (net (now (parents .entry)) (now (weights .entry)))) ⌝ }
 {
-    code(forest::start(parents, weights))
+    refusal::code(forest::start(parents, weights))
 }
 
 #[no_mangle]
@@ -55,9 +48,11 @@ pub extern "C" fn niqastul_add(
     jump: &mut [u32],
     lower: &mut [u32],
 ) -> u32
-    ensures { λ r. ⌜ ended r (growing (net (now (parents .exit)) (now (weights .exit))) (workOf (now (ends .exit)) (now (jump .exit)) (now (lower .exit)))) ≡ addOutcome (growing (net (now (parents .entry)) (now (weights .entry))) (workOf (now (ends .entry)) (now (jump .entry)) (now (lower .entry)))) (now (edges .entry)) ⌝ }
+    ensures { λ r. ⌜
+        returned r (growing (net (now (parents .exit)) (now (weights .exit))) (workOf (now (ends .exit)) (now (jump .exit)) (now (lower .exit))))
+        ≡ handed (addOutcome (growing (net (now (parents .entry)) (now (weights .entry))) (workOf (now (ends .entry)) (now (jump .entry)) (now (lower .entry)))) (now (edges .entry))) ⌝ }
 {
-    code(forest::add(parents, weights, edges, ends, jump, lower))
+    refusal::code(forest::add(parents, weights, edges, ends, jump, lower))
 }
 
 #[no_mangle]
@@ -70,9 +65,11 @@ pub extern "C" fn niqastul_join(
     jump: &mut [u32],
     lower: &mut [u32],
 ) -> u32
-    ensures { λ r. ⌜ ended r (growing (net (now (parents .exit)) (now (weights .exit))) (workOf (now (ends .exit)) (now (jump .exit)) (now (lower .exit)))) ≡ joinOutcome (growing (net (now (parents .entry)) (now (weights .entry))) (workOf (now (ends .entry)) (now (jump .entry)) (now (lower .entry)))) (net (now («other_parents» .entry)) (now («other_weights» .entry))) ⌝ }
+    ensures { λ r. ⌜
+        returned r (growing (net (now (parents .exit)) (now (weights .exit))) (workOf (now (ends .exit)) (now (jump .exit)) (now (lower .exit))))
+        ≡ handed (joinOutcome (growing (net (now (parents .entry)) (now (weights .entry))) (workOf (now (ends .entry)) (now (jump .entry)) (now (lower .entry)))) (net (now («other_parents» .entry)) (now («other_weights» .entry)))) ⌝ }
 {
-    code(forest::join(
+    refusal::code(forest::join(
         parents,
         weights,
         other_parents,
@@ -85,16 +82,20 @@ pub extern "C" fn niqastul_join(
 
 #[no_mangle]
 pub extern "C" fn niqastul_save(parents: &[u32], weights: &[u32], bytes: &mut [u8]) -> u32
-    ensures { λ r. ⌜ ended r (now (bytes .exit)) ≡ saveOutcome (net (now (parents .entry)) (now (weights .entry))) (now (bytes .entry)) ⌝ }
+    ensures { λ r. ⌜
+        returned r (now (bytes .exit))
+        ≡ handed (saveOutcome (net (now (parents .entry)) (now (weights .entry))) (now (bytes .entry))) ⌝ }
 {
-    code(linkfile::save(parents, weights, bytes))
+    refusal::code(linkfile::save(parents, weights, bytes))
 }
 
 #[no_mangle]
 pub extern "C" fn niqastul_read(parents: &mut [u32], weights: &mut [u32], bytes: &[u8]) -> u32
-    ensures { λ r. ⌜ ended r (net (now (parents .exit)) (now (weights .exit))) ≡ readOutcome (net (now (parents .entry)) (now (weights .entry))) (now (bytes .entry)) ⌝ }
+    ensures { λ r. ⌜
+        returned r (net (now (parents .exit)) (now (weights .exit)))
+        ≡ handed (readOutcome (net (now (parents .entry)) (now (weights .entry))) (now (bytes .entry))) ⌝ }
 {
-    code(linkfile::read(parents, weights, bytes))
+    refusal::code(linkfile::read(parents, weights, bytes))
 }
 
 #[no_mangle]
@@ -108,9 +109,11 @@ pub extern "C" fn niqastul_divide(
     block: &mut [u32],
     block_loads: &mut [u32],
 ) -> u32
-    ensures { λ r. ⌜ ended r (divisionOf (now (carried .exit)) (now (top .exit)) (now (block .exit)) (now («block_loads» .exit))) ≡ divideOutcome (net (now (parents .entry)) (now (weights .entry))) limit blocks (divisionOf (now (carried .entry)) (now (top .entry)) (now (block .entry)) (now («block_loads» .entry))) ⌝ }
+    ensures { λ r. ⌜
+        returned r (divisionOf (now (carried .exit)) (now (top .exit)) (now (block .exit)) (now («block_loads» .exit)))
+        ≡ handed (divideOutcome (net (now (parents .entry)) (now (weights .entry))) limit blocks (divisionOf (now (carried .entry)) (now (top .entry)) (now (block .entry)) (now («block_loads» .entry)))) ⌝ }
 {
-    code(partition::divide(
+    refusal::code(partition::divide(
         parents,
         weights,
         limit,
@@ -145,7 +148,16 @@ pub extern "C" fn niqastul_report(
     bound: &mut u64,
     volume: &mut u64,
 ) -> u32
-    ensures { λ r. ⌜ reported r (cellsOf (now (bound .exit)) (now (volume .exit))) (lent (written (divisionOf (now (carried .exit)) (now (top .exit)) (now (block .exit)) (now («block_loads» .exit))) (now («edge_blocks» .exit)) (now (reach .exit)) (now («block_count» .exit))) (net (now («compared_parents» .exit)) (now («compared_weights» .exit))) (workOf (now (ends .exit)) (now (jump .exit)) (now (lower .exit)))) ≡ handed (cellsOf (now (bound .entry)) (now (volume .entry))) (reportOutcome (net (now (parents .entry)) (now (weights .entry))) limit blocks (now (edges .entry)) (lent (written (divisionOf (now (carried .entry)) (now (top .entry)) (now (block .entry)) (now («block_loads» .entry))) (now («edge_blocks» .entry)) (now (reach .entry)) (now («block_count» .entry))) (net (now («compared_parents» .entry)) (now («compared_weights» .entry))) (workOf (now (ends .entry)) (now (jump .entry)) (now (lower .entry))))) ⌝ }
+    ensures { λ r. ⌜
+        reported r (totals (now (bound .exit)) (now (volume .exit)))
+        (lent (written (divisionOf (now (carried .exit)) (now (top .exit)) (now (block .exit)) (now («block_loads» .exit))) (now («edge_blocks» .exit)) (now (reach .exit)) (now («block_count» .exit)))
+        (net (now («compared_parents» .exit)) (now («compared_weights» .exit)))
+        (workOf (now (ends .exit)) (now (jump .exit)) (now (lower .exit))))
+        ≡ handedTotals (totals (now (bound .entry)) (now (volume .entry)))
+        (reportOutcome (net (now (parents .entry)) (now (weights .entry))) limit blocks (now (edges .entry))
+        (lent (written (divisionOf (now (carried .entry)) (now (top .entry)) (now (block .entry)) (now («block_loads» .entry))) (now («edge_blocks» .entry)) (now (reach .entry)) (now («block_count» .entry)))
+        (net (now («compared_parents» .entry)) (now («compared_weights» .entry)))
+        (workOf (now (ends .entry)) (now (jump .entry)) (now (lower .entry))))) ⌝ }
 {
     match report::report(
         parents,
@@ -166,12 +178,9 @@ pub extern "C" fn niqastul_report(
         jump,
         lower,
     ) {
-        ReportAnswer::Accepted {
-            bound: cost,
-            volume: shared,
-        } => {
-            *bound = cost;
-            *volume = shared;
+        ReportAnswer::Accepted(totals) => {
+            *bound = totals.bound;
+            *volume = totals.volume;
             0
         }
         ReportAnswer::Refused(why) => why,

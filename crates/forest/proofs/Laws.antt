@@ -13,11 +13,11 @@ use Rattle.game.specs.Game.{absent, forest}
 use Rattle.game.specs.Tree.{links}
 use Rattle.game.specs.Net.{net, weights, netOf}
 use Rattle.game.proofs.Forest.{forest-length, join-law-left, join-law}
-use Rattle.game.proofs.Proper.{Proper}
+use Rattle.game.specs.Graph.{Proper}
 use Rattle.game.proofs.Weights.{weight-append, weights-length, weights-entry}
 use Rattle.bucket.proofs.Tallied.{zip-length, zip-entry}
-use Rattle.forest.specs.Add.{grown}
-use Rattle.forest.specs.Join.{joined}
+use Rattle.adding.specs.Add.{grown}
+use Rattle.joining.specs.Join.{joined}
 
 -- weights add up
 pub weights-append : (n : ℕ) (es fs : List Edge) → zipWith _+_ (weights n es) (weights n fs) ≡ weights n (es ++ fs)

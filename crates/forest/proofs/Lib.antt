@@ -1,5 +1,3 @@
-pub mod Tests
-pub mod Accepted
-pub mod Outcomes
-pub mod Summed
 pub mod Laws
+pub mod Passes
+pub mod Promise

@@ -1,4 +1,2 @@
--- Start, add and join: what each is refused for, and what it leaves.
-pub mod Start
-pub mod Add
-pub mod Join
+-- What the forest crate promises of the nets that its calls leave.
+pub mod Promise

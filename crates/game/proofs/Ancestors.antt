@@ -15,10 +15,10 @@ use Rattle.game.specs.Table.{member}
 use Rattle.game.specs.Edge.{Edge, _─_}
 use Rattle.game.specs.Game.{absent, forest}
 use Rattle.game.specs.Tree.{links, climb, ancestors, under}
-use Rattle.game.proofs.Conn.{Linked, Conn, conn-step, within-conn}
+use Rattle.game.proofs.Conn.{Conn, conn-step, within-conn}
+use Rattle.game.specs.Graph.{Linked, Proper}
 use Rattle.game.proofs.Bools.{or-cases, or-left, or-right}
 use Rattle.game.proofs.Tables.{member-in, in-member}
-use Rattle.game.proofs.Proper.{Proper}
 use Rattle.game.proofs.Sound.{Sound}
 use Rattle.game.proofs.Links.{link-of, link-inv, link-up, parent-inside}
 use Rattle.game.proofs.Climbs.{Climbs, top, up, climbs-le, climbs-conn, conn-climbs}

@@ -11,7 +11,8 @@ use lib.ListN.{length, getD}
 use Rattle.game.specs.Edge.{_─_}
 use Rattle.game.specs.Game.{absent}
 use Rattle.game.specs.Tree.{links}
-use Rattle.game.proofs.Conn.{Linked, forth, back, Conn, stay, go, conn-step, conn-trans, conn-sym}
+use Rattle.game.proofs.Conn.{Conn, stay, go, conn-step, conn-trans, conn-sym}
+use Rattle.game.specs.Graph.{Linked, forth, back}
 use Rattle.game.proofs.Sound.{Sound, sound-parent}
 use Rattle.game.proofs.Links.{link-of, link-inv, link-up}
 use Rattle.game.proofs.Parent.{LeastAbove}

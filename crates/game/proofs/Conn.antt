@@ -8,11 +8,7 @@ use Prim.Native.Nat.{ℕ, _≤_, max}
 use native.Mathlib.Nat.{le-trans, le-max-left, le-max-right}
 use native.Mathlib.Omega.{arith}
 use Rattle.game.specs.Edge.{Edge, _─_}
-
--- an edge of the graph has these two ends, written either way round
-pub data Linked (g : List Edge) (a b : ℕ) : Type 0 where
-  forth : List·Memᴰ (a ─ b) g → Linked g a b
-  back : List·Memᴰ (b ─ a) g → Linked g a b
+use Rattle.game.specs.Graph.{Linked, forth, back}
 
 -- a walk from a in the graph g over vertices at most t
 pub data Conn (g : List Edge) (t a : ℕ) : ℕ → Type 0 where

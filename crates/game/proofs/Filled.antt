@@ -16,7 +16,8 @@ use Rattle.game.specs.Edge.{Edge, _─_}
 use Rattle.game.specs.Game.{include, higher, clique, filled}
 use Rattle.game.proofs.Bools.{and-both, both-and}
 use Rattle.game.proofs.Tables.{member-in}
-use Rattle.game.proofs.Conn.{Linked, forth, back, Conn, conn-step, conn-trans, Within, linked-sym, linked-left, linked-right, linked-cases, within-refl, within-trans, within-append}
+use Rattle.game.proofs.Conn.{Conn, conn-step, conn-trans, Within, linked-sym, linked-left, linked-right, linked-cases, within-refl, within-trans, within-append}
+use Rattle.game.specs.Graph.{Linked, forth, back}
 use Rattle.game.proofs.Proper.{Ends, same, turned, edge-left, edge-right, linked-nil, linked-cons, linked-tail}
 
 -- ---- the higher neighbours of a vertex

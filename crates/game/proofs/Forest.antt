@@ -2,6 +2,7 @@
 -- depends on nothing else of the graph, and part of a graph may be put for its own forest's links: the law of joined trees.
 -- Assumes nothing.
 use mathlib.Core.Path.{_≡_, refl, sym, subst, _∙_}
+use mathlib.Core.Bool.{true}
 use mathlib.Core.Logic.{_≢_, inl, inr, by-cases}
 use mathlib.Core.List.{List, [], _++_, List·Memᴰ}
 use Prim.Native.Nat.{ℕ, zero, suc, _+_, _≤_, _<_, max}
@@ -11,12 +12,13 @@ use native.Mathlib.Omega.{arith}
 use lib.ListN.{length, getD, replicate}
 use Rattle.game.specs.Edge.{Edge, _─_}
 use Rattle.game.specs.Game.{absent, parent, forest}
-use Rattle.game.specs.Tree.{links}
-use Rattle.game.proofs.Conn.{Linked, forth, Conn, stay, go, conn-step, conn-trans, conn-sym, conn-up, Within, within-refl, within-both}
+use Rattle.game.specs.Tree.{links, sound}
+use Rattle.game.proofs.Conn.{Conn, stay, go, conn-step, conn-trans, conn-sym, conn-up, Within, within-refl, within-both}
+use Rattle.game.specs.Graph.{Linked, forth, Proper}
 use Rattle.game.proofs.Tables.{tabulate-length, tabulate-entry, tabulate-unique, tabulate-ext, tabulate-const}
-use Rattle.game.proofs.Proper.{Proper, linked-nil}
+use Rattle.game.proofs.Proper.{linked-nil}
 use Rattle.game.proofs.Within.{within-edges, within-up, conn-below}
-use Rattle.game.proofs.Sound.{Sound, Allowed}
+use Rattle.game.proofs.Sound.{Sound, Allowed, sound-true}
 use Rattle.game.proofs.Links.{link-of, link-inv}
 use Rattle.game.proofs.Parent.{parent-least, parent-absent, least-same}
 use Rattle.game.proofs.Climbs.{table-least}
@@ -84,6 +86,10 @@ forest-same n {g} {h} w v = tabulate-ext n (parent g) (parent h) (λ i l. least-
 -- a sound table is the forest of its own links
 pub forest-links : {p : List ℕ} → Sound p → length p ≤ absent → forest (length p) (links p) ≡ p
 forest-links {p} s u = sym (forest-unique u s refl (within-refl (links p)) (within-refl (links p)))
+
+-- the same, by the test of the rule of 7
+pub sound-forest : (p : List ℕ) → sound p ≡ true → length p ≤ absent → forest (length p) (links p) ≡ p
+sound-forest p s u = forest-links (sound-true p s) u
 
 -- the law of joined trees, one part at a time: a part of the graph may be put for its forest's links
 pub join-law-left : {n : ℕ} {g : List Edge} (h : List Edge) → n ≤ absent → Proper n g

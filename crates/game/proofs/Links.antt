@@ -16,8 +16,8 @@ use borrow.Author.Tests.{eqb-false, ne-eqb}
 use Rattle.game.specs.Edge.{Edge, _─_}
 use Rattle.game.specs.Game.{absent}
 use Rattle.game.specs.Tree.{linksFrom, links}
-use Rattle.game.proofs.Conn.{Linked, forth, back}
-use Rattle.game.proofs.Proper.{Proper, edge-left, edge-right}
+use Rattle.game.specs.Graph.{Linked, forth, back, Proper}
+use Rattle.game.proofs.Proper.{edge-left, edge-right}
 use Rattle.game.proofs.Sound.{Sound, sound-parent}
 
 from-link : (i : ℕ) (p : List ℕ) (k : ℕ) → k < length p → getD p k absent ≢ absent

@@ -6,23 +6,15 @@ use mathlib.Core.List.{List, [], _∷_, List·Permᴰ, List·Permᴰ·nil, List�
 use Prim.Native.Nat.{ℕ, _+_}
 use native.Mathlib.Nat.{min-comm, add-left-comm}
 use lib.Dec.{eqb}
-use Rattle.game.specs.Table.{one-if}
 use Rattle.game.specs.Edge.{Edge, _─_, lower}
 use Rattle.game.specs.Game.{forest}
-use Rattle.game.specs.Net.{weight, weights, netOf}
-use Rattle.game.proofs.Conn.{Linked}
+use Rattle.game.specs.Graph.{Same, nil, keep, flip, swap, trans, Linked, Proper}
+use Rattle.game.specs.Net.{charge, owner, weight, weights, netOf}
 use Rattle.game.proofs.Tables.{tabulate-ext}
-use Rattle.game.proofs.Proper.{Proper, ends-turn, linked-ends, linked-cons, linked-tail}
+use Rattle.game.proofs.Proper.{ends-turn, linked-ends, linked-cons, linked-tail}
 use Rattle.game.proofs.Within.{within-linked}
 use Rattle.game.proofs.Forest.{forest-same}
-
--- the same edges, in any order and each either way round
-pub data Same : List Edge → List Edge → Type 0 where
-  nil : Same [] []
-  keep : {e : Edge} {es fs : List Edge} → Same es fs → Same (e ∷ es) (e ∷ fs)
-  flip : {a b : ℕ} {es fs : List Edge} → Same es fs → Same ((a ─ b) ∷ es) ((b ─ a) ∷ fs)
-  swap : {e f : Edge} {es : List Edge} → Same (e ∷ f ∷ es) (f ∷ e ∷ es)
-  trans : {es fs gs : List Edge} → Same es fs → Same fs gs → Same es gs
+use Rattle.game.proofs.Weights.{share}
 
 pub same-refl : (es : List Edge) → Same es es
 same-refl [] = nil
@@ -65,11 +57,11 @@ forest-order n s = forest-same n (within-linked (same-linked s)) (within-linked 
 
 -- the weights are one
 pub weight-order : {es fs : List Edge} → Same es fs → (x : ℕ) → weight es x ≡ weight fs x
-unfolding weight
+unfolding weight share owner
 weight-order nil x = refl
-weight-order (keep {e = e} s) x = ap (λ (k : ℕ). one-if (eqb (lower e) x) + k) (weight-order s x)
+weight-order (keep {e = e} s) x = ap (λ (k : ℕ). share (charge e) (owner e) x + k) (weight-order s x)
 weight-order (flip {a = a} {b = b} s) x = rw (weight-order s x, min-comm a b)
-weight-order (swap {e = e} {f = f} {es = es}) x = add-left-comm (one-if (eqb (lower e) x)) (one-if (eqb (lower f) x)) (weight es x)
+weight-order (swap {e = e} {f = f} {es = es}) x = add-left-comm (share (charge e) (owner e) x) (share (charge f) (owner f) x) (weight es x)
 weight-order (trans s t) x = weight-order s x ∙ weight-order t x
 
 pub weights-order : (n : ℕ) {es fs : List Edge} → Same es fs → weights n es ≡ weights n fs

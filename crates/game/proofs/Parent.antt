@@ -10,7 +10,8 @@ use native.Mathlib.Decide.{ℕ-discrete, decLt, decLe}
 use native.Mathlib.Omega.{arith}
 use Rattle.game.specs.Edge.{Edge}
 use Rattle.game.specs.Game.{absent, lowest, higher, filled, parent}
-use Rattle.game.proofs.Conn.{Linked, Conn, stay, go, conn-step, Within, within-conn}
+use Rattle.game.proofs.Conn.{Conn, stay, go, conn-step, Within, within-conn}
+use Rattle.game.specs.Graph.{Linked}
 use Rattle.game.proofs.Filled.{higher-linked, linked-higher, filled-within, Low, once, more, low-filled}
 
 -- y is the least vertex above x that is joined to x at its own height, or absent if there is none

@@ -7,10 +7,8 @@ use mathlib.Core.List.{List, [], _∷_, _++_, List·Memᴰ·head, List·Memᴰ·
 use Prim.Native.Nat.{ℕ, _<_}
 use native.Mathlib.Omega.{arith}
 use Rattle.game.specs.Edge.{Edge, _─_}
-use Rattle.game.proofs.Conn.{Linked, forth, back, linked-left, linked-right, linked-cases}
-
-pub record Proper (n : ℕ) (g : List Edge) : Type 0 where
-  pub each : (a b : ℕ) → Linked g a b → (a < n) × (b < n) × (a ≢ b)
+use Rattle.game.specs.Graph.{Proper, Linked, forth, back}
+use Rattle.game.proofs.Conn.{linked-left, linked-right, linked-cases}
 
 -- two ends named the one way round or the other
 pub data Ends (a b x y : ℕ) : Type 0 where

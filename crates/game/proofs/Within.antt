@@ -9,8 +9,8 @@ use native.Mathlib.Nat.{le-max-left, le-max-right, max-comm}
 use native.Mathlib.Decide.{decLt}
 use native.Mathlib.Omega.{arith}
 use Rattle.game.specs.Edge.{Edge, _─_}
-use Rattle.game.proofs.Conn.{Linked, forth, back, Conn, stay, go, conn-step, conn-sym, conn-up, linked-sym, Within}
-use Rattle.game.proofs.Proper.{Proper}
+use Rattle.game.proofs.Conn.{Conn, stay, go, conn-step, conn-sym, conn-up, linked-sym, Within}
+use Rattle.game.specs.Graph.{Linked, forth, back, Proper}
 
 -- a graph whose edges are edges of the other
 pub within-linked : {g h : List Edge} → ((a b : ℕ) → Linked g a b → Linked h a b) → Within g h

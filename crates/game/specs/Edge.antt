@@ -22,6 +22,10 @@ upper (a ─ b) = max a b
 unfoldable pub turn : Edge → Edge
 turn (a ─ b) = b ─ a
 
+-- the numbers to an edge in a flat list
+abbrev pub stride : ℕ
+stride = 2
+
 -- a flat list read as edges, two numbers to an edge; a last number that stands alone is left out
 unfoldable pub edges : List ℕ → List Edge
 edges [] = []

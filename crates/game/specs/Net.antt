@@ -4,8 +4,8 @@
 -- Forest and the loads that Load give for these ties." A load is a weight here. Its reach is a vertex's column count in the
 -- Cholesky factor, less one.
 -- Assumes nothing.
-use mathlib.Core.Bool.{Bool, _&&_, _||_}
-use mathlib.Core.List.{List}
+use mathlib.Core.Bool.{Bool, _&&_, _||_, cond}
+use mathlib.Core.List.{List, map}
 use Prim.Native.Nat.{ℕ}
 use lib.Dec.{eqb}
 use Rattle.game.specs.Table.{tabulate, sum, count, some-entry}
@@ -20,10 +20,23 @@ pub record Net : Type 0 where
 abbrev pub net : List ℕ → List ℕ → Net
 net parents weights = record { parents = parents; weights = weights }
 
--- "Load of x: the number of ties whose lower end is x, repeats counted"
+-- the vertex that an edge is charged to, and how much: one to its lower end
+unfoldable pub owner : Edge → ℕ
+unfolding lower
+owner e = lower e
+
+unfoldable pub charge : Edge → ℕ
+charge e = 1
+
+-- "Load of x: the number of ties whose lower end is x, repeats counted": what the edges charge to x
 unfoldable pub weight : List Edge → ℕ → ℕ
-unfolding count lower
-weight es x = count (λ (e : Edge). eqb (lower e) x) es
+unfolding owner charge sum
+weight es x = sum (map (λ (e : Edge). cond (eqb (owner e) x) (charge e) 0) es)
+
+-- what a list of edges is charged in all
+unfoldable pub charges : List Edge → ℕ
+unfolding charge sum
+charges es = sum (map charge es)
 
 unfoldable pub weights : ℕ → List Edge → List ℕ
 unfolding tabulate weight

@@ -1,9 +1,10 @@
--- Tables of numbers as lists: a table made from a rule, a table's sum, and the tests that the definitions go by.
+-- Tables of numbers as lists: a table made from a rule, a table's sum, and the tests and choices that the definitions go by.
 -- Assumes nothing.
 use mathlib.Core.Bool.{Bool, true, false, _||_, cond}
 use mathlib.Core.List.{List, [], _∷_}
-use Prim.Native.Nat.{ℕ, zero, suc, _+_}
+use Prim.Native.Nat.{ℕ, zero, suc, _+_, _<_}
 use lib.Dec.{eqb}
+use lib.ListN.{length, getD}
 
 -- f i, f (i + 1), .. : n entries
 unfoldable pub tabulateFrom : {A : Type 0} → ℕ → ℕ → (ℕ → A) → List A
@@ -38,3 +39,12 @@ count t (x ∷ xs) = one-if (t x) + count t xs
 unfoldable pub some-entry : {A : Type 0} → (A → Bool) → List A → Bool
 some-entry t [] = false
 some-entry t (x ∷ xs) = t x || some-entry t xs
+
+-- the entries that pass the test, in order
+unfoldable pub filtered : {A : Type 0} → (A → Bool) → List A → List A
+filtered t [] = []
+filtered t (x ∷ xs) = let rest : List _ = filtered t xs in cond (t x) (x ∷ rest) rest
+
+-- each entry is below m: ranks are below n, bytes below 256, words below 2 ^ 32
+pub record Below (m : ℕ) (xs : List ℕ) : Type 0 where
+  pub each : (i : ℕ) → i < length xs → getD xs i 0 < m

@@ -13,7 +13,8 @@ use lib.Seq.{getD-set-same, getD-set-other}
 use Rattle.game.specs.Edge.{Edge}
 use Rattle.game.specs.Game.{absent}
 use Rattle.game.specs.Tree.{links}
-use Rattle.game.proofs.Conn.{Conn, stay, conn-trans, conn-sym, conn-up, conn-step, conn-map, Linked, forth, back}
+use Rattle.game.proofs.Conn.{Conn, stay, conn-trans, conn-sym, conn-up, conn-step, conn-map}
+use Rattle.game.specs.Graph.{Linked, forth, back}
 use Rattle.game.proofs.Sound.{getD-default}
 use Rattle.game.proofs.Links.{link-set-old, link-set-new}
 use Rattle.growth.specs.Growth.{Root, Above, Known, known, passed, Child, Standing, Climbing, Climbed, Upward}

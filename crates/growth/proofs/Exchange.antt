@@ -12,7 +12,8 @@ use lib.ListN.{length, getD, set}
 use Rattle.game.specs.Edge.{Edge, _─_}
 use Rattle.game.specs.Game.{absent}
 use Rattle.game.specs.Tree.{links}
-use Rattle.game.proofs.Conn.{Conn, stay, Linked, forth, back, Within, conn-step, conn-trans, conn-up, conn-sym, within-left}
+use Rattle.game.proofs.Conn.{Conn, stay, Within, conn-step, conn-trans, conn-up, conn-sym, within-left}
+use Rattle.game.specs.Graph.{Linked, forth, back}
 use Rattle.game.proofs.Within.{within-edges}
 use Rattle.game.proofs.Proper.{edge-left, edge-right}
 use Rattle.game.proofs.Links.{link-of, link-inv, link-set-old, link-set-new, link-set-other, link-set-inv}

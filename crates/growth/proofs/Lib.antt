@@ -1,6 +1,9 @@
 pub mod Climb
+pub mod Weigh
 pub mod Raise
 pub mod Rooms
 pub mod Regrown
 pub mod Exchange
 pub mod Put
+pub mod Tests
+pub mod Whole

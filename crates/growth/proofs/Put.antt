@@ -15,10 +15,11 @@ use Rattle.game.proofs.Edges.{edges-drop, edges-end, edges-length}
 use Rattle.game.proofs.Forest.{forest-same, forest-unique}
 use Rattle.game.proofs.Sound.{Sound, sound-true, true-sound, sound-parent, sound-set, getD-default}
 use Rattle.game.proofs.Within.{within-linked}
-use Rattle.game.proofs.Order.{same-linked, flip, nil}
+use Rattle.game.proofs.Order.{same-linked}
+use Rattle.game.specs.Graph.{flip, nil, Proper}
 use Rattle.refusal.specs.Refusal.{fault, firstFault}
 use Rattle.refusal.proofs.Fault.{faultless, first-fault-on, faultless-proper}
-use Rattle.game.proofs.Proper.{Proper, proper-append}
+use Rattle.game.proofs.Proper.{proper-append}
 use Rattle.game.proofs.Links.{links-proper}
 use Rattle.bucket.specs.Filed.{Filed}
 use Rattle.refusal.proofs.First.{first-none}

@@ -1,32 +1,15 @@
--- Which lengths of the work tables are refused, test by test, and what is known where none is.
+-- What is known of work tables whose lengths are not refused, and of cleared ones.
 -- Assumes nothing.
 use mathlib.Core.Path.{_≡_, refl}
-use mathlib.Core.Bool.{Bool, true, false, not, _||_, true≢false}
+use mathlib.Core.Bool.{Bool, true, false, _||_, true≢false}
 use mathlib.Core.List.{List}
 use Prim.Native.Nat.{ℕ}
-use lib.Dec.{eqb}
 use lib.ListN.{length, replicate}
 use Rattle.refusal.specs.Refusal.{wrongLength}
-use Rattle.refusal.proofs.First.{right-length, wrong-length, length-right}
+use Rattle.refusal.proofs.First.{length-right}
 use Rattle.growth.specs.Work.{Work, workOf, badWork, zeros, cleared}
 
-differs : (has needs : ℕ) → wrongLength has needs ≡ not (eqb has needs)
-unfolding wrongLength
-differs has needs = refl
-
 module _ (n m : ℕ) (w : Work) where
-  pub bad-ends : (length (w .ends) ≡ n → ⊥) → badWork n m w ≡ true
-  unfolding badWork
-  bad-ends d = rw (wrong-length (length (w .ends)) n d)
-
-  pub bad-jump : length (w .ends) ≡ n → (length (w .jump) ≡ n → ⊥) → badWork n m w ≡ true
-  unfolding badWork
-  bad-jump e d = rw (right-length (length (w .ends)) n e, wrong-length (length (w .jump)) n d)
-
-  pub bad-lower : length (w .ends) ≡ n → length (w .jump) ≡ n → badWork n m w ≡ not (eqb (length (w .lower)) m)
-  unfolding badWork
-  bad-lower e f = rw (right-length (length (w .ends)) n e, right-length (length (w .jump)) n f) (differs (length (w .lower)) m)
-
   pub good-work : badWork n m w ≡ false → (length (w .ends) ≡ n) × (length (w .jump) ≡ n) × (length (w .lower) ≡ m)
   unfolding badWork
   good-work e = go (wrongLength (length (w .ends)) n) (wrongLength (length (w .jump)) n) refl refl e

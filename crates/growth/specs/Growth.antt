@@ -5,18 +5,22 @@
 -- Assumes nothing.
 use mathlib.Core.Path.{_≡_}
 use mathlib.Core.Logic.{_⊎_}
+use mathlib.Core.Bool.{false}
 use mathlib.Core.List.{List}
-use Prim.Native.Nat.{ℕ, _≤_, _<_}
-use lib.ListN.{length, getD, replicate}
+use Prim.Native.Nat.{ℕ, _+_, _^_, _≤_, _<_}
+use lib.Dec.{eqb}
+use lib.ListN.{length, getD, take, replicate}
+use Rattle.game.specs.Table.{count}
 use Rattle.game.specs.Edge.{Edge}
 use Rattle.game.specs.Game.{absent, forest}
 use Rattle.game.specs.Tree.{links}
-use Rattle.game.proofs.Conn.{Conn, Linked}
-use Rattle.game.proofs.Proper.{Proper}
+use Rattle.game.proofs.Conn.{Conn}
+use Rattle.game.specs.Graph.{Linked, Proper}
 use Rattle.refusal.specs.Limits.{maxVertices}
 use Rattle.growth.specs.Work.{workOf, cleared}
-use Rattle.bucket.specs.Ends.{below}
-use Rattle.bucket.specs.Filed.{Filed}
+use Rattle.table.proofs.Filling.{Filling}
+use Rattle.bucket.specs.Ends.{tallied}
+use Rattle.bucket.specs.Filed.{begin, Filed}
 
 -- neither table has an entry for z
 pub record Root (p jump : List ℕ) (z : ℕ) : Type 0 where
@@ -77,41 +81,70 @@ pub record Climbs (u y : ℕ) (p jump p′ jump′ : List ℕ) : Type 0 where
   pub upward : Upward (length p) jump′
   pub climbed : (E : List Edge) → Standing (length p) E y 0 p jump → u < y → Conn E y u y → Climbed (length p) E y u p p′ jump′
 
--- the places from .. to of the table of lower ends hold vertices that the graph joins to y from below
-pub record Offers (E : List Edge) (y from to : ℕ) (lower : List ℕ) : Type 0 where
-  pub offer : (i : ℕ) → from ≤ i → i < to → (getD lower i 0 < y) × Conn E y (getD lower i 0) y
+-- each vertex of a list is weighed: 1 is added to its weight, if the table has one for it
+pub record Weighs (us weights weights′ : List ℕ) : Type 0 where
+  pub long : length weights′ ≡ length weights
+  pub each : (v : ℕ) → v < length weights → getD weights′ v 0 ≡ getD weights v 0 + count (λ (u : ℕ). eqb u v) us
 
--- the forest joins them all to y
-pub record Gathered (n : ℕ) (E : List Edge) (y from to : ℕ) (lower was p jump : List ℕ) : Type 0 where
+-- a bucket holds vertices that the graph joins to y from below
+pub record Offers (E : List Edge) (y : ℕ) (bucket : List ℕ) : Type 0 where
+  pub offer : (i : ℕ) → i < length bucket → (getD bucket i 0 < y) × Conn E y (getD bucket i 0) y
+
+-- the forest joins the first k of them to y
+pub record Gathered (n : ℕ) (E : List Edge) (y k : ℕ) (bucket was p jump : List ℕ) : Type 0 where
   pub standing : Standing n E y 0 p jump
-  pub joined : (i : ℕ) → from ≤ i → i < to → Conn (links p) y (getD lower i 0) y
+  pub joined : (i : ℕ) → i < k → Conn (links p) y (getD bucket i 0) y
   pub kept : Kept was p
 
--- what gathering these places for y promises
-pub record Gathers (y from to : ℕ) (lower p jump p′ jump′ : List ℕ) : Type 0 where
+-- what gathering a bucket for y promises
+pub record Gathers (y : ℕ) (bucket weights p jump bucket′ weights′ p′ jump′ : List ℕ) : Type 0 where
   pub upward : Upward (length p) jump′
-  pub gathered : (E : List Edge) → Standing (length p) E y 0 p jump → Offers E y from to lower → Gathered (length p) E y from to lower p p′ jump′
+  pub clear : bucket′ ≡ replicate (length bucket) 0
+  pub weighed : Weighs bucket weights weights′
+  pub gathered : (E : List Edge) → Standing (length p) E y 0 p jump → Offers E y bucket → Gathered (length p) E y (length bucket) bucket p p′ jump′
 
--- the vertices below y are raised: every edge with an upper end below y is a walk in the forest; y's bucket starts at the place at
-pub record Raised (n : ℕ) (E : List Edge) (y at : ℕ) (p jump : List ℕ) : Type 0 where
+-- the vertices below y are raised: every edge with an upper end below y is a walk in the forest
+pub record Raised (n : ℕ) (E : List Edge) (y : ℕ) (p jump : List ℕ) : Type 0 where
   pub standing : Standing n E y 0 p jump
-  pub start : at ≡ below y E
   pub covered : (a b : ℕ) → Linked E a b → a < b → b < y → Conn (links p) b a b
 
--- few vertices, and no bucket ends past the table of lower ends
+-- few vertices, and buckets one behind the other, none of which ends past the table of lower ends
 pub record Buckets (ends lower : List ℕ) : Type 0 where
   pub few : length ends ≤ maxVertices
+  pub rising : (y : ℕ) → y < length ends → begin ends y ≤ getD ends y 0
   pub room : (y : ℕ) → y < length ends → getD ends y 0 ≤ length lower
 
+-- no weight grows too large, whatever the buckets hold
+pub record Light (weights lower : List ℕ) : Type 0 where
+  pub light : (v : ℕ) → v < length weights → getD weights v 0 + length lower < 2 ^ 32
+
 -- the tables before raising: no vertex has a parent or a jump
-pub record Blank (ends lower p jump : List ℕ) : Type 0 where
+pub record Blank (ends lower weights p jump : List ℕ) : Type 0 where
   pub blank : p ≡ replicate (length ends) absent
   pub blank-jump : jump ≡ replicate (length ends) absent
   pub buckets : Buckets ends lower
+  pub light : Light weights lower
 
--- what raising promises of the table of parents: it is the elimination forest of whatever graph is filed
-pub record Raises (ends lower p : List ℕ) : Type 0 where
+-- what raising promises: the parents are the elimination forest of whatever graph is filed, the weights are those of the buckets, which
+-- are cleared
+pub record Raises (ends lower weights lower′ weights′ p : List ℕ) (end : ℕ) : Type 0 where
   pub raised : (E : List Edge) → Proper (length ends) E → Filed (length ends) E ends lower → p ≡ forest (length ends) E
+  pub last : end ≡ begin ends (length ends)
+  pub weighed : Weighs (take end lower) weights weights′
+  pub clear : Filling 0 lower end lower′
+
+-- a forest can be grown from what is filed in a table without parents
+pub record Bare (ends lower weights p jump : List ℕ) : Type 0 where
+  pub blank : p ≡ replicate (length ends) absent
+  pub long-jump : length jump ≡ length ends
+  pub buckets : Buckets ends lower
+  pub light : Light weights lower
+
+-- what growing promises: the parents and the weights of whatever graph was filed, and cleared work tables
+pub record Grows (ends lower weights jump p′ weights′ ends′ lower′ jump′ : List ℕ) : Type 0 where
+  pub grown : (E : List Edge) → Proper (length ends) E → Filed (length ends) E ends lower → p′ ≡ forest (length ends) E
+  pub weighed : (E : List Edge) → Filed (length ends) E ends lower → weights′ ≡ tallied false E weights
+  pub clear : workOf ends′ jump′ lower′ ≡ cleared (workOf ends jump lower)
 
 -- a forest can be grown anew from what is filed, whatever the tables hold: their lengths fit
 pub record Roomy (ends lower p jump : List ℕ) : Type 0 where

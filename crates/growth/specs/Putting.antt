@@ -12,6 +12,7 @@ use Rattle.game.proofs.Conn.{Within}
 use Rattle.refusal.specs.Limits.{maxVertices}
 use Rattle.refusal.specs.Refusal.{firstFault}
 use Rattle.growth.specs.Work.{workOf, cleared}
+use Rattle.growth.specs.Growth.{Light}
 
 -- two graphs join the same vertices at the same heights, so their forests are the same
 pub record Alike (g h : List Edge) : Type 0 where
@@ -59,6 +60,11 @@ pub record Extendable (p xs ends jump lower : List ℕ) : Type 0 where
   pub long-jump : length jump ≡ length p
   pub room : length p + length (edges xs) ≤ length lower
   pub small : length lower ≤ 17_000_000
+
+-- its weights can be counted: no entry grows too large
+pub record Weighable (p weights lower : List ℕ) : Type 0 where
+  pub long : length weights ≡ length p
+  pub light : Light weights lower
 
 -- and then the parents are those of the elimination game on the old links and the new edges
 pub record Extends (p xs ends jump lower p′ ends′ jump′ lower′ : List ℕ) : Type 0 where

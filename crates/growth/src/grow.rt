@@ -1,10 +1,12 @@
 // The growth of a forest by union-find with path compression, over edges by rising upper end (document 001).
-use net::Forest;
+use net::Net;
+use table::wide;
 ghost use mathlib.Core.Path.{_≡_};
-ghost use Prim.Native.Nat.{_<_, _≤_};
-ghost use lib.ListN.{length};
+ghost use mathlib.Core.List.{[], _∷_};
+ghost use Prim.Native.Nat.{ℕ, _+_, _^_, _<_, _≤_};
+ghost use lib.ListN.{length, getD, take, replicate};
 ghost use Rattle.growth.specs.Work.{workOf, cleared};
-ghost use Rattle.growth.specs.Growth.{Upward, Climbs, Gathers, Blank, Raises, Roomy, Regrows};
+ghost use Rattle.growth.specs.Growth.{Upward, Climbs, Weighs, Light, Gathers, Blank, Raises, Bare, Grows, Roomy, Regrows};
 
 // Makes the root of u's tree a child of y, and every vertex on the way jump to y. A vertex jumps higher than it stands, so
 // the climb ends.
@@ -17,7 +19,7 @@ fn climb(u: u32, y: u32, parents: &mut [u32], jump: &mut [u32])
         let at = w as usize;
         let next = jump[at];
         jump[at] = y;
-        if next == Forest::ABSENT {
+        if next == Net::ABSENT {
             parents[at] = y;
             return;
         }
@@ -25,55 +27,89 @@ fn climb(u: u32, y: u32, parents: &mut [u32], jump: &mut [u32])
     }
 }
 
-// Climbs for y from each vertex in the places from .. to of the table of lower ends.
-fn gather(y: u32, from: usize, to: usize, lower: &[u32], parents: &mut [u32], jump: &mut [u32])
-    requires { ⌜ (y < length (now parents)) × (to ≤ length (now lower)) × Upward (length (now parents)) (now jump) ⌝ }
-    ensures { λ _. ⌜ Gathers y from to (now (lower .entry)) (now (parents .entry)) (now (jump .entry)) (now (parents .exit)) (now (jump .exit)) ⌝ }
+// Adds 1 to the weight of u, if the table has one for it.
+fn weigh(u: u32, weights: &mut [u32])
+    requires { ⌜ ((v : ℕ) → v < length (now weights) → getD (now weights) v 0 + 1 < 2 ^ 32) ⌝ }
+    ensures { λ _. ⌜ Weighs (u ∷ []) (now (weights .entry)) (now (weights .exit)) ⌝ }
 {
-    let mut i = from;
-    while i < to {
-        climb(lower[i], y, parents, jump);
+    let at = wide(u);
+    if at < weights.len() {
+        weights[at] += 1;
+    }
+}
+
+// Climbs for y from each vertex of y's bucket, weighs it, and clears its place, while it is at hand.
+fn gather(y: u32, bucket: &mut [u32], weights: &mut [u32], parents: &mut [u32], jump: &mut [u32])
+    requires { ⌜ (y < length (now parents)) × Upward (length (now parents)) (now jump) × Light (now weights) (now bucket) ⌝ }
+    ensures { λ _. ⌜ Gathers y (now (bucket .entry)) (now (weights .entry)) (now (parents .entry)) (now (jump .entry)) (now (bucket .exit)) (now (weights .exit)) (now (parents .exit)) (now (jump .exit)) ⌝ }
+{
+    let mut i = 0;
+    while i < bucket.len() {
+        let u = bucket[i];
+        bucket[i] = 0;
+        weigh(u, weights);
+        climb(u, y, parents, jump);
         i += 1;
     }
 }
 
-fn wide(x: u32) -> usize
-    ensures { λ r. ⌜ r ≡ x ⌝ }
-{
-    x as usize
-}
-
-// Raises the vertices upward, each with its bucket of lower ends, from blank tables to the forest of the graph that is filed.
-fn raise(ends: &[u32], lower: &[u32], parents: &mut [u32], jump: &mut [u32])
-    requires { ⌜ Blank (now ends) (now lower) (now parents) (now jump) ⌝ }
-    ensures { λ _. ⌜ Raises (now (ends .entry)) (now (lower .entry)) (now (parents .exit)) ⌝ }
+// Raises the vertices upward, each with its bucket of lower ends, from blank tables to the forest of the graph that is filed. Answers
+// where the last bucket ends: so far the table of lower ends is cleared.
+fn raise(
+    ends: &[u32],
+    lower: &mut [u32],
+    weights: &mut [u32],
+    parents: &mut [u32],
+    jump: &mut [u32],
+) -> usize
+    requires { ⌜ Blank (now ends) (now lower) (now weights) (now parents) (now jump) ⌝ }
+    ensures { λ r. ⌜ Raises (now (ends .entry)) (now (lower .entry)) (now (weights .entry)) (now (lower .exit)) (now (weights .exit)) (now (parents .exit)) r ⌝ }
 {
     let mut at = 0;
     let mut y = 0;
     while y < ends.len() {
         let end = wide(ends[y]);
-        gather(y as u32, at, end, lower, parents, jump);
+        gather(y as u32, &mut lower[at..end], weights, parents, jump);
         at = end;
         y += 1;
     }
+    at
 }
 
-// Clears the work tables.
-pub fn clear(ends: &mut [u32], jump: &mut [u32], lower: &mut [u32])
+// Clears the work tables, of which the table of lower ends is clear up to a place.
+pub fn clear(ends: &mut [u32], jump: &mut [u32], lower: &mut [u32], from: usize)
+    requires { ⌜ (from ≤ length (now lower)) × (take from (now lower) ≡ replicate from 0) ⌝ }
     ensures { λ _. ⌜ workOf (now (ends .exit)) (now (jump .exit)) (now (lower .exit)) ≡ cleared (workOf (now (ends .entry)) (now (jump .entry)) (now (lower .entry))) ⌝ }
 {
     table::fill(ends, 0);
     table::fill(jump, 0);
-    table::fill(lower, 0);
+    table::fill(&mut lower[from..], 0);
 }
 
-// Grows the forest of the graph that is filed, and clears the work tables.
+// Grows the forest of the graph that is filed in a table without parents, adds the weights that the graph gives, and clears the work
+// tables.
+pub fn grow(
+    parents: &mut [u32],
+    weights: &mut [u32],
+    ends: &mut [u32],
+    jump: &mut [u32],
+    lower: &mut [u32],
+)
+    requires { ⌜ Bare (now ends) (now lower) (now weights) (now parents) (now jump) ⌝ }
+    ensures { λ _. ⌜ Grows (now (ends .entry)) (now (lower .entry)) (now (weights .entry)) (now (jump .entry)) (now (parents .exit)) (now (weights .exit)) (now (ends .exit)) (now (lower .exit)) (now (jump .exit)) ⌝ }
+{
+    table::fill(jump, Net::ABSENT);
+    let end = raise(ends, lower, weights, parents, jump);
+    clear(ends, jump, lower, end);
+}
+
+// Grows the forest of the graph that is filed, and clears the work tables. Some edges may be old links, so no weight is counted: the
+// table for it is empty.
 pub fn regrow(parents: &mut [u32], ends: &mut [u32], jump: &mut [u32], lower: &mut [u32])
     requires { ⌜ Roomy (now ends) (now lower) (now parents) (now jump) ⌝ }
     ensures { λ _. ⌜ Regrows (now (ends .entry)) (now (lower .entry)) (now (jump .entry)) (now (parents .exit)) (now (ends .exit)) (now (lower .exit)) (now (jump .exit)) ⌝ }
 {
-    table::fill(parents, Forest::ABSENT);
-    table::fill(jump, Forest::ABSENT);
-    raise(ends, lower, parents, jump);
-    clear(ends, jump, lower);
+    let mut none = [0u32; 0];
+    table::fill(parents, Net::ABSENT);
+    grow(parents, &mut none, ends, jump, lower);
 }

@@ -1,7 +1,7 @@
 // Edges put into a forest one by one, by exchanges, without a work table. A short list is taken in so at little cost; a tall forest
 // could make every step of it long, so the steps are counted against a budget, and what is left is grown with the whole forest.
 use crate::grow;
-use net::Forest;
+use net::Net;
 ghost use mathlib.Core.Path.{_≡_};
 ghost use mathlib.Core.Bool.{true};
 ghost use Prim.Native.Nat.{_+_, _≤_, _<_};
@@ -26,7 +26,7 @@ fn exchange(parents: &mut [u32], low: u32, high: u32) -> Pending
 {
     let at = low as usize;
     let parent = parents[at];
-    if parent == Forest::ABSENT {
+    if parent == Net::ABSENT {
         parents[at] = high;
         return Pending { low: high, high };
     }
@@ -86,18 +86,23 @@ fn put_some(parents: &mut [u32], edges: &[u32], budget: usize) -> usize
     i
 }
 
-// How many exchanges a list of m edges is worth before the whole forest of n vertices is grown: none, if the list is long itself.
+// Whether a list of m edges is long for n vertices: then it is not worth putting in one by one.
+pub fn is_long(n: usize, m: usize) -> bool {
+    n / 8 <= m
+}
+
+// How many exchanges a list of m edges is worth before the whole forest of n vertices is grown.
 fn budget(n: usize, m: usize) -> usize
     ensures { λ r. ⌜ r ≤ n ⌝ }
 {
-    if m < n / 8 {
-        return n / 8;
+    if is_long(n, m) {
+        return 0;
     }
-    0
+    n / 8
 }
 
 // Makes the parents those of the elimination game on the old links and the edges of the list, and clears the work tables.
-pub fn extend(
+pub fn insert(
     parents: &mut [u32],
     edges: &[u32],
     ends: &mut [u32],
@@ -110,7 +115,7 @@ pub fn extend(
     let most = budget(parents.len(), edges.len() / 2);
     let at = put_some(parents, edges, most);
     if edges.len() <= at + 1 {
-        grow::clear(ends, jump, lower);
+        grow::clear(ends, jump, lower, 0);
         return;
     }
     bucket::file_edges(parents, &edges[at..], ends, lower);

@@ -1,3 +1,4 @@
 pub mod Update
 pub mod Steps
 pub mod Theorem
+pub mod Sound

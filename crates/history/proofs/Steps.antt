@@ -13,28 +13,31 @@ use Rattle.game.specs.Game.{absent}
 use Rattle.game.specs.Net.{Net, netOf}
 use Rattle.game.proofs.Forest.{forest-length}
 use Rattle.game.proofs.Weights.{weights-length}
-use Rattle.game.proofs.Proper.{Proper, proper-nil, proper-append}
+use Rattle.game.proofs.Proper.{proper-nil, proper-append}
+use Rattle.game.specs.Graph.{Proper}
 use Rattle.refusal.specs.Limits.{maxVertices}
 use Rattle.refusal.specs.Refusal.{unless}
+use Rattle.refusal.specs.Verdict.{isAccepted, judged}
 use Rattle.refusal.specs.Outcome.{decided}
 use Rattle.refusal.proofs.First.{unless-part}
 use Rattle.refusal.proofs.Fault.{faultless-proper}
 use Rattle.net.specs.Damage.{damaged}
 use Rattle.growth.specs.Work.{Work, Growing, growing, cleared}
-use Rattle.forest.specs.Start.{startRefusal, startOutcome}
-use Rattle.forest.specs.Add.{grown, addRefusal, addOutcome}
-use Rattle.forest.specs.Join.{joined, joinRefusal, joinOutcome}
-use Rattle.forest.proofs.Accepted.{startable, addable, joinable}
+use Rattle.starting.specs.Start.{startRefusal, startOutcome}
+use Rattle.adding.specs.Add.{grown, addRefusal, addOutcome}
+use Rattle.joining.specs.Join.{joined, joinRefusal, joinOutcome}
+use Rattle.joining.proofs.Accepted.{joinable}
+use Rattle.adding.proofs.Accepted.{addable}
+use Rattle.starting.proofs.Accepted.{startable}
 use Rattle.forest.proofs.Laws.{grown-net, joined-net}
 use Rattle.linkfile.specs.LinkFile.{linkFile, fileNet, saveRefusal, saveOutcome, readRefusal, readOutcome}
 use Rattle.linkfile.proofs.Accepted.{save-accepted}
 use Rattle.linkfile.proofs.RoundTrip.{file-net, undamaged-parents, undamaged-weights}
 use Rattle.relabel.specs.Relabel.{relabelOutcome}
 use Rattle.partition.specs.Divide.{divideOutcome}
-use Rattle.report.specs.Answer.{answered}
 use Rattle.report.specs.Report.{reportOutcome}
-use Rattle.history.specs.World.{World, Call, start, add, join, save, read, relabel, divide, report, update, withNet, withFile, step}
-use Rattle.history.specs.Book.{Book, Entry, entry, enter, note, isAccepted, behind, started, added, joined as entered, saved, loaded, passed}
+use Rattle.history.specs.World.{World, Call, start, add, join, save, read, relabel, divide, report, update, withNet, withFile, step, stepped}
+use Rattle.history.specs.Book.{Book, Entry, entry, enter, note, behind, started, added, joined as entered, saved, loaded, passed}
 use Rattle.history.proofs.Update.{update-both, update-same}
 
 -- a vertex count that nets may have
@@ -67,15 +70,15 @@ pub record Kept (w : World) (b : Book) : Type 0 where
   pub files : (f : ℕ) → FileKept (w .files f) (b .files f)
 
 -- a call that writes one net, or one file: refused it leaves the old one, accepted it has to put in what its entry demands
-net-written : {w : World} {b : Book} (v : Kept w b) (i k : ℕ) (new : Net) (list : Option (List Edge)) (e : Entry) → enter b e ≡ record { nets = update (b .nets) i list; files = b .files } → (k ≡ 0 → NetKept new list) → Kept (withNet w i (unless k (w .nets i) new)) (note b e (isAccepted k))
-unfolding unless note isAccepted
+net-written : {w : World} {b : Book} (v : Kept w b) (i k : ℕ) (new : Net) (list : Option (List Edge)) (e : Entry) → enter b e ≡ record { nets = update (b .nets) i list; files = b .files } → (k ≡ 0 → NetKept new list) → Kept (withNet w i (unless k (w .nets i) new)) (note b e (isAccepted (judged k (tt {0}))))
+unfolding unless note isAccepted judged
 net-written {w} {b} v i zero new list e q h =
     subst (Kept (withNet w i new)) (sym q) (record { nets = update-both NetKept (w .nets) (b .nets) (v .nets) i new list (h refl); files = v .files })
 net-written {w} {b} v i (suc k) new list e q h =
     record { nets = update-same NetKept (w .nets) (b .nets) (v .nets) i (w .nets i) refl; files = v .files }
 
-file-written : {w : World} {b : Book} (v : Kept w b) (f k : ℕ) (new : List ℕ) (list : Option (List Edge)) (e : Entry) → enter b e ≡ record { nets = b .nets; files = update (b .files) f list } → (k ≡ 0 → FileKept new list) → Kept (withFile w f (unless k (w .files f) new)) (note b e (isAccepted k))
-unfolding unless note isAccepted
+file-written : {w : World} {b : Book} (v : Kept w b) (f k : ℕ) (new : List ℕ) (list : Option (List Edge)) (e : Entry) → enter b e ≡ record { nets = b .nets; files = update (b .files) f list } → (k ≡ 0 → FileKept new list) → Kept (withFile w f (unless k (w .files f) new)) (note b e (isAccepted (judged k (tt {0}))))
+unfolding unless note isAccepted judged
 file-written {w} {b} v f zero new list e q h =
     subst (Kept (withFile w f new)) (sym q) (record { nets = v .nets; files = update-both FileKept (w .files) (b .files) (v .files) f new list (h refl) })
 file-written {w} {b} v f (suc k) new list e q h =
@@ -187,17 +190,17 @@ note-passed b true = refl
 note-passed b false = refl
 
 -- every call
-pub step-keeps : {w : World} {b : Book} (c : Call) → Kept w b → Kept (step w c .tables) (note b (entry c) (isAccepted (step w c .answer)))
-unfolding step entry decided enter startOutcome addOutcome joinOutcome saveOutcome readOutcome
+pub step-keeps : {w : World} {b : Book} (c : Call) → Kept w b → Kept (step w c .world) (note b (entry c) (step w c .accepted))
+unfolding step stepped entry decided enter startOutcome addOutcome joinOutcome saveOutcome readOutcome
 step-keeps {w} {b} (start i) v =
     net-written v i (startRefusal (w .nets i)) (netOf (length (w .nets i .parents)) []) (some []) (started i) refl (started-kept (w .nets i))
 step-keeps {w} {b} (add i xs work) v =
-    subst (λ (x : Net). Kept (withNet w i x) (note b (added i xs) (isAccepted (addRefusal (growing (w .nets i) work) xs))))
+    subst (λ (x : Net). Kept (withNet w i x) (note b (added i xs) (isAccepted (judged (addRefusal (growing (w .nets i) work) xs) (tt {0})))))
     (sym (unless-part (λ (g : Growing). g .net) (addRefusal (growing (w .nets i) work) xs) (growing (w .nets i) work) (growing (grown (w .nets i) (edges xs)) (cleared work))))
     (net-written v i (addRefusal (growing (w .nets i) work) xs) (grown (w .nets i) (edges xs)) (behind (b .nets i) (some (edges xs))) (added i xs) refl
     (added-kept (w .nets i) (b .nets i) xs work (v .nets i)))
 step-keeps {w} {b} (join i j different work) v =
-    subst (λ (x : Net). Kept (withNet w i x) (note b (entered i j) (isAccepted (joinRefusal (growing (w .nets i) work) (w .nets j)))))
+    subst (λ (x : Net). Kept (withNet w i x) (note b (entered i j) (isAccepted (judged (joinRefusal (growing (w .nets i) work) (w .nets j)) (tt {0})))))
     (sym (unless-part (λ (g : Growing). g .net) (joinRefusal (growing (w .nets i) work) (w .nets j)) (growing (w .nets i) work) (growing (joined (w .nets i) (w .nets j)) (cleared work))))
     (net-written v i (joinRefusal (growing (w .nets i) work) (w .nets j)) (joined (w .nets i) (w .nets j)) (behind (b .nets i) (b .nets j)) (entered i j) refl
     (joined-kept (w .nets i) (w .nets j) (b .nets i) (b .nets j) work (v .nets i) (v .nets j)))
@@ -207,6 +210,6 @@ step-keeps {w} {b} (save i f) v =
 step-keeps {w} {b} (read i f) v =
     net-written v i (readRefusal (length (w .nets i .parents)) (length (w .nets i .weights)) (w .files f)) (fileNet (w .files f)) (b .files f) (loaded i f) refl
     (λ z. loaded-kept (w .files f) (b .files f) (v .files f))
-step-keeps {w} {b} (relabel order xs tables) v = subst (Kept w) (sym (note-passed b (isAccepted (relabelOutcome order xs tables .answer)))) v
-step-keeps {w} {b} (divide i B k tables) v = subst (Kept w) (sym (note-passed b (isAccepted (divideOutcome (w .nets i) B k tables .answer)))) v
-step-keeps {w} {b} (report i B k xs tables) v = subst (Kept w) (sym (note-passed b (isAccepted (answered (reportOutcome (w .nets i) B k xs tables .reply))))) v
+step-keeps {w} {b} (relabel order xs tables) v = subst (Kept w) (sym (note-passed b (isAccepted (relabelOutcome order xs tables .verdict)))) v
+step-keeps {w} {b} (divide i B k tables) v = subst (Kept w) (sym (note-passed b (isAccepted (divideOutcome (w .nets i) B k tables .verdict)))) v
+step-keeps {w} {b} (report i B k xs tables) v = subst (Kept w) (sym (note-passed b (isAccepted (reportOutcome (w .nets i) B k xs tables .verdict)))) v

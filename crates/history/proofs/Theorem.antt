@@ -10,19 +10,19 @@ use Rattle.game.proofs.Order.{net-order}
 use Rattle.linkfile.proofs.RoundTrip.{link-file-length}
 use Rattle.report.specs.Report.{Lent, reportOutcome}
 use Rattle.cost.proofs.VolumeBound.{volume-bound}
-use Rattle.report.proofs.Own.{own-not-23, accepted-figures}
+use Rattle.report.proofs.Own.{own-not-23, accepted-totals}
 use Rattle.history.specs.World.{World, Call}
 use Rattle.history.specs.Book.{Book, blank}
 use Rattle.history.specs.History.{worldAfter, bookAfter, Reports, NetHolds, FileHolds, Holds}
 use Rattle.history.proofs.Steps.{NetOf, FileOf, Kept, nothing, net-lengths, parents-length, step-keeps}
 
 -- a report that is lent the list of a net
-reports : (net : Net) (ts : List Edge) (B k : ℕ) (xs : List ℕ) (tables : Lent) → net ≡ netOf (length (net .parents)) ts → edges xs ≡ ts → Reports net ts B k (reportOutcome net B k xs tables .reply)
+reports : (net : Net) (ts : List Edge) (B k : ℕ) (xs : List ℕ) (tables : Lent) → net ≡ netOf (length (net .parents)) ts → edges xs ≡ ts → Reports net ts B k (reportOutcome net B k xs tables .verdict)
 reports net ts B k xs tables is e =
-    subst (λ (us : List Edge). Reports net us B k (reportOutcome net B k xs tables .reply)) e
+    subst (λ (us : List Edge). Reports net us B k (reportOutcome net B k xs tables .verdict)) e
     (record {
       never-23 = own-not-23 net B k xs tables (is ∙ ap (netOf (length (net .parents))) (sym e));
-      figures = accepted-figures net B k xs tables;
+      answers = accepted-totals net B k xs tables;
     })
 
 -- what is kept is what is claimed

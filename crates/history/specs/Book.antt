@@ -7,7 +7,7 @@
 use mathlib.Core.Bool.{Bool, true, false}
 use mathlib.Core.List.{List, [], _++_}
 use mathlib.Core.Option.{Option, none, some}
-use Prim.Native.Nat.{ℕ, zero, suc}
+use Prim.Native.Nat.{ℕ}
 use Rattle.game.specs.Edge.{Edge, edges}
 use Rattle.history.specs.World.{Call, start, add, join, save, read, relabel, divide, report, update}
 
@@ -58,11 +58,6 @@ enter b passed = b
 unfoldable pub note : Book → Entry → (accepted : Bool) → Book
 note b e true = enter b e
 note b e false = b
-
--- a call was accepted if its answer is 0
-unfoldable pub isAccepted : ℕ → Bool
-isAccepted zero = true
-isAccepted (suc k) = false
 
 -- "At first all have none."
 unfoldable pub blank : Book

@@ -12,28 +12,28 @@ use Prim.Native.Nat.{ℕ, _*_, _≤_}
 use lib.ListN.{length}
 use Rattle.game.specs.Edge.{Edge, edges}
 use Rattle.game.specs.Net.{Net, netOf}
-use Rattle.game.proofs.Order.{Same}
-use Rattle.refusal.specs.Outcome.{Outcome}
+use Rattle.game.specs.Graph.{Same}
+use Rattle.refusal.specs.Verdict.{Verdict, accepted, refused}
 use Rattle.linkfile.specs.LinkFile.{linkFile}
-use Rattle.cost.specs.Figures.{boundOf, volumeOf}
-use Rattle.report.specs.Answer.{Reply, accepted, refused}
+use Rattle.cost.specs.declared.Totals.{Totals}
+use Rattle.cost.specs.Figures.{boundOf, volumeOf, totalsOf}
 use Rattle.report.specs.Report.{Lent, reportOutcome}
 use Rattle.history.specs.World.{World, Call, step}
-use Rattle.history.specs.Book.{Book, entry, note, isAccepted}
+use Rattle.history.specs.Book.{Book, entry, note}
 
 -- the world and the book after a list of calls: "Each call finds every net and file as the call before left it"
 unfoldable pub worldAfter : World → List Call → World
 worldAfter w [] = w
-worldAfter w (c ∷ cs) = worldAfter (step w c .tables) cs
+worldAfter w (c ∷ cs) = worldAfter (step w c .world) cs
 
 unfoldable pub bookAfter : World → Book → List Call → Book
 bookAfter w b [] = b
-bookAfter w b (c ∷ cs) = bookAfter (step w c .tables) (note b (entry c) (isAccepted (step w c .answer))) cs
+bookAfter w b (c ∷ cs) = bookAfter (step w c .world) (note b (entry c) (step w c .accepted)) cs
 
 -- what a report, lent the list of a net, answers
-pub record Reports (net : Net) (ts : List Edge) (B k : ℕ) (reply : Reply) : Type 0 where
-  pub never-23 : reply ≡ refused 23 → ⊥
-  pub figures : (bound volume : ℕ) → reply ≡ accepted bound volume → (bound ≡ boundOf net ts B k) × (volume ≡ volumeOf net ts B k)
+pub record Reports (net : Net) (ts : List Edge) (B k : ℕ) (verdict : Verdict Totals) : Type 0 where
+  pub never-23 : verdict ≡ refused 23 → ⊥
+  pub answers : (totals : Totals) → verdict ≡ accepted totals → totals ≡ totalsOf net ts B k
 
 -- what a net with a list holds
 pub record NetHolds (net : Net) (ts : List Edge) : Type 0 where
@@ -43,7 +43,7 @@ pub record NetHolds (net : Net) (ts : List Edge) : Type 0 where
   -- for every B and k, so for those too that Divide accepts
   pub volume-bound : (B k : ℕ) → volumeOf net ts B k ≤ boundOf net ts B k
   -- lent any numbers that read as the list, and tables of any lengths, holding anything
-  pub reports : (B k : ℕ) (xs : List ℕ) (tables : Lent) → edges xs ≡ ts → Reports net ts B k (reportOutcome net B k xs tables .reply)
+  pub reports : (B k : ℕ) (xs : List ℕ) (tables : Lent) → edges xs ≡ ts → Reports net ts B k (reportOutcome net B k xs tables .verdict)
 
 -- what a file with a list holds
 pub record FileHolds (bytes : List ℕ) (ts : List Edge) : Type 0 where

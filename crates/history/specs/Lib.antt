@@ -2,3 +2,4 @@
 pub mod World
 pub mod Book
 pub mod History
+pub mod Sound

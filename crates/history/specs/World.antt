@@ -7,20 +7,20 @@
 -- may stand between; none of these tables is lent to them to be written."
 -- Assumes nothing.
 use mathlib.Core.Path.{_≡_}
-use mathlib.Core.Bool.{cond}
+use mathlib.Core.Bool.{Bool, cond}
 use mathlib.Core.List.{List}
 use Prim.Native.Nat.{ℕ}
 use lib.Dec.{eqb}
 use Rattle.game.specs.Net.{Net}
+use Rattle.refusal.specs.Verdict.{isAccepted}
 use Rattle.refusal.specs.Outcome.{Outcome}
-use Rattle.growth.specs.Work.{Work, growing}
-use Rattle.forest.specs.Start.{startOutcome}
-use Rattle.forest.specs.Add.{addOutcome}
-use Rattle.forest.specs.Join.{joinOutcome}
+use Rattle.growth.specs.Work.{Work, Growing, growing}
+use Rattle.starting.specs.Start.{startOutcome}
+use Rattle.adding.specs.Add.{addOutcome}
+use Rattle.joining.specs.Join.{joinOutcome}
 use Rattle.linkfile.specs.LinkFile.{saveOutcome, readOutcome}
 use Rattle.relabel.specs.Relabel.{Tables, relabelOutcome}
 use Rattle.partition.specs.Divide.{Tables as Division, divideOutcome}
-use Rattle.report.specs.Answer.{answered}
 use Rattle.report.specs.Report.{Lent, reportOutcome}
 
 -- nets and files by number; a file is its bytes
@@ -50,23 +50,21 @@ withNet w i net = record { nets = update (w .nets) i net; files = w .files }
 abbrev pub withFile : World → ℕ → List ℕ → World
 withFile w f bytes = record { nets = w .nets; files = update (w .files) f bytes }
 
--- the call's answer, and the world after it
-unfoldable pub step : World → Call → Outcome World
-step w (start i) =
-    let o : Outcome Net = startOutcome (w .nets i) in
-    record { answer = o .answer; tables = withNet w i (o .tables) }
-step w (add i xs work) =
-    let o = addOutcome (growing (w .nets i) work) xs in
-    record { answer = o .answer; tables = withNet w i (o .tables .net) }
-step w (join i j different work) =
-    let o = joinOutcome (growing (w .nets i) work) (w .nets j) in
-    record { answer = o .answer; tables = withNet w i (o .tables .net) }
-step w (save i f) =
-    let o : Outcome (List ℕ) = saveOutcome (w .nets i) (w .files f) in
-    record { answer = o .answer; tables = withFile w f (o .tables) }
-step w (read i f) =
-    let o : Outcome Net = readOutcome (w .nets i) (w .files f) in
-    record { answer = o .answer; tables = withNet w i (o .tables) }
-step w (relabel order xs tables) = record { answer = relabelOutcome order xs tables .answer; tables = w }
-step w (divide i B k tables) = record { answer = divideOutcome (w .nets i) B k tables .answer; tables = w }
-step w (report i B k xs tables) = record { answer = answered (reportOutcome (w .nets i) B k xs tables .reply); tables = w }
+-- what a call does: whether it was accepted, and the world after it
+pub record Step : Type 0 where
+  pub accepted : Bool
+  pub world : World
+
+-- by its outcome, and by the world that its tables make
+unfoldable pub stepped : {X A : Type 0} → Outcome X A → (A → World) → Step
+stepped o world = record { accepted = isAccepted (o .verdict); world = world (o .tables) }
+
+unfoldable pub step : World → Call → Step
+step w (start i) = stepped (startOutcome (w .nets i)) (withNet w i)
+step w (add i xs work) = stepped (addOutcome (growing (w .nets i) work) xs) (λ (g : Growing). withNet w i (g .net))
+step w (join i j different work) = stepped (joinOutcome (growing (w .nets i) work) (w .nets j)) (λ (g : Growing). withNet w i (g .net))
+step w (save i f) = stepped (saveOutcome (w .nets i) (w .files f)) (withFile w f)
+step w (read i f) = stepped (readOutcome (w .nets i) (w .files f)) (withNet w i)
+step w (relabel order xs tables) = stepped (relabelOutcome order xs tables) (λ (t : Tables). w)
+step w (divide i B k tables) = stepped (divideOutcome (w .nets i) B k tables) (λ (t : Division). w)
+step w (report i B k xs tables) = stepped (reportOutcome (w .nets i) B k xs tables) (λ (t : Lent). w)

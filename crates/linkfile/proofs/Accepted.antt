@@ -11,7 +11,7 @@ use Rattle.game.specs.Net.{Net, total}
 use Rattle.refusal.specs.Limits.{maxTotal}
 use Rattle.refusal.specs.Refusal.{given, first, badCount, wrongLength}
 use Rattle.game.proofs.Bools.{or-neither}
-use Rattle.refusal.proofs.First.{first-none, first-last, given-none, length-right}
+use Rattle.refusal.proofs.First.{pass, first-pass, first-end, first-none, first-last, given-none, length-right, right-length}
 use Rattle.net.specs.Damage.{damaged, damagedBy}
 use Rattle.linkfile.specs.LinkFile.{fileNet, saveRefusal, unfit, readRefusal}
 
@@ -60,3 +60,13 @@ unfolding readRefusal
 read-accepted n m bytes e =
     let h = tests-passed (badCount n) (wrongLength m n) (wrongLength (length bytes) (8 * n)) _ _ _ (unfit (fileNet bytes)) e refl refl refl in
     record { count = h .0; weights-right = length-right _ _ (h .1); whole = length-right _ _ (h .2); fit = h .3 }
+
+-- and what such tables are refused for: nothing
+pub save-passes : (net : Net) {m : ℕ} → badCount (length (net .parents)) ≡ false → length (net .weights) ≡ length (net .parents)
+    → m ≡ 8 * length (net .parents) → damaged net ≡ false → saveRefusal net m ≡ 0
+unfolding saveRefusal
+save-passes net c w m d = pass 1 _ c ∙ pass 2 _ (right-length _ _ w) ∙ pass 2 _ (right-length _ _ m) ∙ pass 30 _ d ∙ first-end
+
+pub read-passes : (bytes : List ℕ) {n m : ℕ} → badCount n ≡ false → m ≡ n → length bytes ≡ 8 * n → unfit (fileNet bytes) ≡ 0 → readRefusal n m bytes ≡ 0
+unfolding readRefusal
+read-passes bytes c w l f = pass 1 _ c ∙ pass 2 _ (right-length _ _ w) ∙ pass 6 _ (right-length _ _ l) ∙ first-pass _ _ f ∙ first-end

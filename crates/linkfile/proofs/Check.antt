@@ -12,10 +12,9 @@ use borrow.Author.Tests.{lt-ltb, le-ltb}
 use Rattle.words.specs.Word.{wordAt}
 use Rattle.game.specs.Table.{sum}
 use Rattle.game.specs.Tree.{soundParent, soundFrom, sound}
-use Rattle.game.specs.Net.{Net, total}
+use Rattle.game.specs.Net.{Net, total, net as lent}
 use Rattle.refusal.specs.Limits.{maxTotal}
 use Rattle.refusal.specs.Refusal.{first, given}
-use Rattle.game.specs.Net.{net as lent}
 use Rattle.linkfile.specs.LinkFile.{fileNet, unfit}
 use Rattle.linkfile.proofs.Records.{file-drop, file-end, file-lengths}
 

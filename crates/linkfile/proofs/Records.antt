@@ -16,8 +16,7 @@ use Rattle.words.specs.Word.{wordBytes, wordOf, wordAt, bytesOf, words}
 use Rattle.words.proofs.Bytes.{words-drop, words-length}
 use Rattle.words.proofs.Stores.{stores-append, stores-take}
 use Rattle.game.specs.Game.{absent}
-use Rattle.game.specs.Net.{Net}
-use Rattle.game.specs.Net.{net as lent}
+use Rattle.game.specs.Net.{Net, net as lent}
 use Rattle.linkfile.specs.LinkFile.{records, linkFile, recordParents, recordWeights, fileNet}
 
 -- four bytes are all FF exactly if their word is absent

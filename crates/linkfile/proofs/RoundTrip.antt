@@ -1,6 +1,6 @@
 -- A net that is saved and read back is that net, and a file that is read and saved again is that file.
 -- Assumes nothing.
-use mathlib.Core.Path.{_≡_, refl, ap, ap₂, _∙_}
+use mathlib.Core.Path.{_≡_, refl, sym, ap, ap₂, subst, _∙_}
 use mathlib.Core.Bool.{Bool, true, false, not, _||_}
 use mathlib.Core.Logic.{inl, inr}
 use mathlib.Core.List.{List, [], _∷_}
@@ -8,22 +8,28 @@ use Prim.Native.Nat.{ℕ, _*_, _%_, _^_, _≤_, _<_}
 use native.Mathlib.Omega.{arith}
 use lib.Dec.{ltb}
 use lib.ListN.{length, getD}
-use borrow.Author.Tests.{eq-eqb}
 use Rattle.words.specs.Word.{words}
-use Rattle.words.proofs.Bytes.{Below, below-head, below-tail, below-none, below-cons, words-of-bytes, bytes-of-words, bytes-length, words-length}
+use Rattle.words.proofs.Bytes.{below-head, below-tail, below-none, below-cons, words-of-bytes, bytes-of-words, bytes-length, words-length}
+use Rattle.game.specs.Table.{Below}
 use Rattle.game.specs.Game.{absent}
 use Rattle.game.specs.Tree.{sound}
-use Rattle.game.specs.Net.{Net, total}
-use Rattle.game.proofs.Sound.{Sound, Allowed, getD-default}
+use Rattle.game.specs.Net.{Net, total, net as lent}
+use Rattle.game.proofs.Sound.{Sound, Allowed, getD-default, true-sound}
 use Rattle.game.proofs.Tables.{sum-entry}
 use Rattle.refusal.specs.Limits.{maxVertices, maxTotal}
-use Rattle.refusal.specs.Refusal.{given, first, wrongLength}
+use Rattle.refusal.specs.Refusal.{given, first, badCount}
+use Rattle.refusal.specs.Verdict.{accepted, refused}
+use Rattle.refusal.specs.Outcome.{ended, decided}
 use Rattle.net.specs.Damage.{damaged, damagedBy}
 use Rattle.net.proofs.Scan.{undamaged}
-use Rattle.game.specs.Net.{net as lent}
-use Rattle.linkfile.specs.LinkFile.{records, linkFile, recordParents, recordWeights, fileNet, saveRefusal, unfit, readRefusal}
-use Rattle.refusal.proofs.First.{good-count}
-use Rattle.linkfile.proofs.Accepted.{undamaged-fit, save-accepted, read-accepted}
+use Rattle.linkfile.specs.LinkFile.{records, linkFile, recordParents, recordWeights, fileNet, saveRefusal, saveOutcome, unfit, readRefusal, readOutcome}
+use Rattle.refusal.proofs.First.{good-count, unless-accepted}
+use Rattle.refusal.proofs.Ends.{accepted-none, ends-accepted}
+use Rattle.refusal.proofs.Never.{end-not, other-not, false-not, verdict-not}
+use Rattle.forest.specs.Promise.{Valid}
+use Rattle.forest.proofs.Promise.{valid-undamaged}
+use Rattle.linkfile.proofs.Accepted.{undamaged-fit, save-accepted, read-accepted, save-passes, read-passes}
+use Rattle.linkfile.proofs.Records.{file-lengths}
 
 -- the columns of the records are the tables
 records-columns : (ps ws : List ℕ) → length ws ≡ length ps → (recordParents (records ps ws) ≡ ps) × (recordWeights (records ps ws) ≡ ws)
@@ -66,10 +72,10 @@ file-net net e bp bw =
     let c = records-columns (net .parents) (net .weights) e in
     rw (words-of-bytes (records (net .parents) (net .weights)) (records-below (net .parents) (net .weights) bp bw)) (ap₂ lent (c .0) (c .1))
 
--- "saving a net that was read from a file gives that file's bytes"
-pub read-save : (bytes : List ℕ) (n : ℕ) → Below 256 bytes → length bytes ≡ 8 * n → linkFile (fileNet bytes) ≡ bytes
+-- the link file of the net that a file says is the file
+file-back : (bytes : List ℕ) (n : ℕ) → Below 256 bytes → length bytes ≡ 8 * n → linkFile (fileNet bytes) ≡ bytes
 unfolding fileNet linkFile
-read-save bytes n b e =
+file-back bytes n b e =
     let w = words-length bytes in
     rw (columns-records (words bytes) (omega arith)) (bytes-of-words bytes b (omega arith))
 
@@ -89,18 +95,16 @@ module _ (net : Net) (few : length (net .parents) ≤ maxVertices) (fine : damag
   pub undamaged-weights : Below (2 ^ 32) (net .weights)
   undamaged-weights = record { each = λ i h. omega (arith, sum-entry (net .weights) i, safe .1) }
 
--- a net that can be saved is read back from its file, into tables of its size that hold anything
-pub save-read : (net : Net) (m : ℕ) → saveRefusal net m ≡ 0
-    → (readRefusal (length (net .parents)) (length (net .weights)) (linkFile net) ≡ 0) × (fileNet (linkFile net) ≡ net)
-unfolding readRefusal first given wrongLength
-save-read net m e =
-    let s = save-accepted net m e in
-    let few = good-count (length (net .parents)) (s .count) .1 in
-    let same = file-net net (s .weights-right) (undamaged-parents net few (s .undamaged)) (undamaged-weights net few (s .undamaged)) in
-    (rw (s .count, eq-eqb _ _ (s .weights-right), eq-eqb _ _ (link-file-length net (s .weights-right)), ap unfit same ∙ undamaged-fit net (s .undamaged)), same)
+-- a saved net may be read from its file, and is the net that the file says
+saved-file : (of : Net) (m : ℕ) → saveRefusal of m ≡ 0 → (unfit (fileNet (linkFile of)) ≡ 0) × (fileNet (linkFile of) ≡ of)
+saved-file of m e =
+    let s = save-accepted of m e in
+    let few = good-count (length (of .parents)) (s .count) .1 in
+    let same = file-net of (s .weights-right) (undamaged-parents of few (s .undamaged)) (undamaged-weights of few (s .undamaged)) in
+    (ap unfit same ∙ undamaged-fit of (s .undamaged), same)
 
 -- a net that was read is not damaged
-pub read-undamaged : (n m : ℕ) (bytes : List ℕ) → readRefusal n m bytes ≡ 0 → damaged (fileNet bytes) ≡ false
+read-undamaged : (n m : ℕ) (bytes : List ℕ) → readRefusal n m bytes ≡ 0 → damaged (fileNet bytes) ≡ false
 unfolding unfit first given damaged damagedBy
 read-undamaged n m bytes e = neither (not (sound (fileNet bytes .parents))) (ltb maxTotal (total (fileNet bytes))) (read-accepted n m bytes e .fit)
   where
@@ -108,3 +112,59 @@ read-undamaged n m bytes e = neither (not (sound (fileNet bytes .parents))) (ltb
     neither true b f = absurd (omega arith)
     neither false true f = absurd (omega arith)
     neither false false f = refl
+
+-- An accepted save, read into tables of n entries that hold anything, is accepted and leaves the net.
+pub save-read : (of : Net) (room : List ℕ) → saveOutcome of room .verdict ≡ accepted tt
+    → (into : Net) → length (into .parents) ≡ length (of .parents) → length (into .weights) ≡ length (of .parents)
+    → readOutcome into (saveOutcome of room .tables) ≡ ended (accepted tt) of
+unfolding saveOutcome readOutcome decided
+save-read of room a into p w =
+    let z = accepted-none (saveRefusal of (length room)) _ a in
+    let s = save-accepted of (length room) z in
+    let back = saved-file of (length room) z in
+    rw (unless-accepted (saveRefusal of (length room)) room (linkFile of) z)
+    (sym (ends-accepted (readRefusal (length (into .parents)) (length (into .weights)) (linkFile of)) tt into (fileNet (linkFile of)) refl
+    (read-passes (linkFile of) (ap badCount p ∙ s .count) (w ∙ sym p) (link-file-length of (s .weights-right) ∙ ap (λ (n : ℕ). 8 * n) (sym p)) (back .0))
+    (sym (back .1))))
+
+-- An accepted reading, saved into any table of 8 × n bytes, is accepted and leaves the file's own bytes.
+pub read-save : (of : Net) (bytes : List ℕ) → Below 256 bytes → readOutcome of bytes .verdict ≡ accepted tt
+    → (room : List ℕ) → length room ≡ 8 * length (of .parents)
+    → saveOutcome (readOutcome of bytes .tables) room ≡ ended (accepted tt) bytes
+unfolding saveOutcome readOutcome decided
+read-save of bytes b a room e =
+    let n = length (of .parents) in
+    let z = accepted-none (readRefusal n (length (of .weights)) bytes) _ a in
+    let l = read-accepted n (length (of .weights)) bytes z in
+    let long = file-lengths bytes n (l .whole) in
+    rw (unless-accepted (readRefusal n (length (of .weights)) bytes) of (fileNet bytes) z)
+    (sym (ends-accepted (saveRefusal (fileNet bytes) (length room)) tt room (linkFile (fileNet bytes)) refl
+    (save-passes (fileNet bytes) (ap badCount (long .0) ∙ l .count) (long .1 ∙ sym (long .0)) (e ∙ ap (λ (k : ℕ). 8 * k) (sym (long .0))) (read-undamaged n (length (of .weights)) bytes z))
+    (sym (file-back bytes n b (l .whole)))))
+
+-- what an accepted reading leaves has the promise of the forest crate
+pub read-valid : (of : Net) (bytes : List ℕ) → readOutcome of bytes .verdict ≡ accepted tt → Valid (readOutcome of bytes .tables)
+unfolding readOutcome decided damaged
+read-valid of bytes a =
+    let n = length (of .parents) in
+    let z = accepted-none (readRefusal n (length (of .weights)) bytes) _ a in
+    let l = read-accepted n (length (of .weights)) bytes z in
+    let long = file-lengths bytes n (l .whole) in
+    let count = good-count n (l .count) in
+    let sane = undamaged (fileNet bytes .parents) (total (fileNet bytes)) (read-undamaged n (length (of .weights)) bytes z) in
+    subst Valid (sym (unless-accepted (readRefusal n (length (of .weights)) bytes) of (fileNet bytes) z))
+    (record {
+      some = omega (arith, long .0, count .0);
+      few = omega (arith, long .0, count .1);
+      sized = long .1 ∙ sym (long .0);
+      sound = true-sound (sane .0);
+      light = sane .1;
+    })
+
+-- a valid net is not refused with 30
+pub save-not-30 : (of : Net) (room : List ℕ) → Valid of → saveOutcome of room .verdict ≡ refused 30 → ⊥
+unfolding saveOutcome decided saveRefusal
+save-not-30 of room v =
+    verdict-not _ _ 30
+    (other-not 29 _ 1 _ (omega arith) (other-not 29 _ 2 _ (omega arith) (other-not 29 _ 2 _ (omega arith)
+    (false-not 29 _ 30 _ (valid-undamaged v) (end-not 29)))))

@@ -16,7 +16,7 @@ use Rattle.game.specs.Tree.{sound}
 use Rattle.game.specs.Net.{Net, total}
 use Rattle.refusal.specs.Limits.{maxTotal}
 use Rattle.refusal.specs.Refusal.{given, first, badCount, wrongLength}
-use Rattle.refusal.specs.Outcome.{Outcome, decided}
+use Rattle.refusal.specs.Outcome.{Done, done}
 use Rattle.net.specs.Damage.{damaged}
 
 -- "record r is the parent and load of rank r": a record is two words
@@ -53,7 +53,6 @@ fileNet bytes = record { parents = recordParents (words bytes); weights = record
 
 -- Save, of a net into a table of m bytes: 1, 2, 30 in this order
 unfoldable pub saveRefusal : Net → ℕ → ℕ
-unfolding first given badCount wrongLength damaged
 saveRefusal net m =
     first
     (given (badCount (length (net .parents))) 1
@@ -63,19 +62,16 @@ saveRefusal net m =
     ∷ [])
 
 -- the bytes after a save: the link file, or as they were
-unfoldable pub saveOutcome : Net → List ℕ → Outcome (List ℕ)
-unfolding decided saveRefusal linkFile
-saveOutcome net bytes = decided (saveRefusal net (length bytes)) bytes (linkFile net)
+unfoldable pub saveOutcome : Net → List ℕ → Done (List ℕ)
+saveOutcome net bytes = done (saveRefusal net (length bytes)) bytes (linkFile net)
 
 -- 7: "a link record's parent is neither absent nor in rank+1 to n−1"; 20: "the total after .. reading .. is above 16,000,000"
 unfoldable pub unfit : Net → ℕ
-unfolding first given sound
 unfit net = first (given (not (sound (net .parents))) 7 ∷ given (ltb maxTotal (total net)) 20 ∷ [])
 
 -- Read, of a file into tables of n parents and m weights: 1, 2, 6, 7, 20 in this order. Never 30: what the tables hold is
 -- overwritten and not looked at
 unfoldable pub readRefusal : ℕ → ℕ → List ℕ → ℕ
-unfolding first given badCount wrongLength unfit fileNet
 readRefusal n m bytes =
     first
     (given (badCount n) 1
@@ -85,6 +81,5 @@ readRefusal n m bytes =
     ∷ [])
 
 -- the net after a reading: the file's, or as it was
-unfoldable pub readOutcome : Net → List ℕ → Outcome Net
-unfolding decided readRefusal fileNet
-readOutcome net bytes = decided (readRefusal (length (net .parents)) (length (net .weights)) bytes) net (fileNet bytes)
+unfoldable pub readOutcome : Net → List ℕ → Done Net
+readOutcome net bytes = done (readRefusal (length (net .parents)) (length (net .weights)) bytes) net (fileNet bytes)

@@ -1,5 +1,7 @@
 // A net, that is an elimination forest with a weight on each vertex: its type, its constants, and what damages it.
 // A net's tables are lent as two slices, parents and weights; its vertex count is the length of its parents.
+use table::amount;
+use table::narrow;
 ghost use mathlib.Core.Path.{_≡_};
 ghost use Prim.Native.Nat.{_^_, _≤_, _<_};
 ghost use lib.ListN.{length};
@@ -9,31 +11,30 @@ ghost use Rattle.game.specs.Tree.{sound, soundParent};
 ghost use Rattle.refusal.specs.Limits.{maxVertices, maxTotal};
 ghost use Rattle.net.specs.Damage.{damagedBy};
 
-// What a call knows of a net whose tables it has read: how many vertices it has, and its total weight.
-pub struct Forest {
-    pub vertices: usize,
+// What a call knows of a net whose tables it has read: its total weight.
+pub struct Net {
     pub total: u64,
 }
 
-impl Forest {
+impl Net {
     // The parent of a vertex that has none.
     pub const ABSENT: u32 = 0xFFFF_FFFF;
 
     // The largest total weight.
     pub const MAX_TOTAL: u64 = 16_000_000;
 
-    pub fn new(vertices: usize, total: u64) -> Forest
-        ensures { λ r. ⌜ (r .vertices ≡ vertices) × (r .total ≡ total) ⌝ }
+    pub fn new(total: u64) -> Net
+        ensures { λ r. ⌜ r .total ≡ total ⌝ }
     {
-        Forest { vertices, total }
+        Net { total }
     }
 
-    // The summary of a net's tables.
-    pub fn of(parents: &[u32], weights: &[u32]) -> Forest
+    // What the tables of a net say of it.
+    pub fn of(weights: &[u32]) -> Net
         requires { ⌜ length (now weights) ≤ maxVertices ⌝ }
-        ensures { λ r. ⌜ (r .vertices ≡ length (now (parents .entry))) × (r .total ≡ sum (now (weights .entry))) ⌝ }
+        ensures { λ r. ⌜ r .total ≡ sum (now (weights .entry)) ⌝ }
     {
-        Forest::new(parents.len(), total(weights))
+        Net::new(total(weights))
     }
 
     // Refusal 30, of the net whose summary this is.
@@ -42,24 +43,11 @@ impl Forest {
         ensures { λ r. ⌜ r ≡ damagedBy (now (parents .entry)) (self .total) ⌝ }
     {
         if is_sound(parents) {
-            Forest::MAX_TOTAL < self.total
+            Net::MAX_TOTAL < self.total
         } else {
             true
         }
     }
-}
-
-fn wide(x: u32) -> u64
-    ensures { λ r. ⌜ r ≡ x ⌝ }
-{
-    x as u64
-}
-
-fn narrow(x: usize) -> u32
-    requires { ⌜ x < 2 ^ 32 ⌝ }
-    ensures { λ r. ⌜ r ≡ x ⌝ }
-{
-    x as u32
 }
 
 // Whether p may be the parent of the vertex at rank i among n: it is absent or stands above i, within the table. There is no branch
@@ -67,7 +55,7 @@ fn narrow(x: usize) -> u32
 fn is_parent(n: u32, i: u32, p: u32) -> bool
     ensures { λ r. ⌜ r ≡ soundParent n i p ⌝ }
 {
-    (p == Forest::ABSENT) | ((i < p) & (p < n))
+    (p == Net::ABSENT) | ((i < p) & (p < n))
 }
 
 // Whether each parent is absent or stands above its vertex, within the table: a scan to the end, which is quicker than one that stops.
@@ -93,7 +81,7 @@ pub fn total(weights: &[u32]) -> u64
     let mut sum: u64 = 0;
     let mut i = 0;
     while i < weights.len() {
-        sum += wide(weights[i]);
+        sum += amount(weights[i]);
         i += 1;
     }
     sum

@@ -10,17 +10,17 @@ use Rattle.game.specs.Table.{tabulate, sum}
 use Rattle.game.specs.Game.{absent}
 use Rattle.game.proofs.Sound.{Sound, sound-true}
 use Rattle.game.proofs.Tables.{tabulate-length, tabulate-entry}
-use Rattle.partition.specs.Cut.{carried, cut, top, isTop}
-use Rattle.partition.specs.Pack.{loadsBelow, blockOf}
+use Rattle.groups.specs.Cut.{carried, cut, top, isTop}
+use Rattle.packing.specs.Pack.{loadsBelow, blockOf, maxBlocks}
 use Rattle.game.specs.Net.{net}
-use Rattle.partition.specs.Divide.{tables, divided, maxBlocks}
-use Rattle.partition.specs.Work.{Divisible, Cuts, Hanging, Tops, Grouped, Packable, Topped, Assigned}
-use Rattle.partition.proofs.Lists.{stretch, stretch-in, sum-agree}
-use Rattle.partition.proofs.Sums.{only, total}
-use Rattle.partition.proofs.Carried.{entry, carried-size, greedy-carrying}
-use Rattle.partition.proofs.Groups.{top-of, top-top, tops-weight}
-use Rattle.partition.proofs.Climbing.{hanging-up, climbed-tops}
-use Rattle.partition.proofs.Blocks.{topIn}
+use Rattle.partition.specs.Divide.{tables, divided}
+use Rattle.packing.specs.Steps.{Packable, Topped, Assigned}
+use Rattle.groups.specs.Steps.{Divisible, Grouped}
+use Rattle.groups.proofs.Lists.{stretch, stretch-in, sum-agree}
+use Rattle.groups.proofs.Sums.{only, total}
+use Rattle.groups.proofs.Carried.{entry, carried-size, greedy-carrying}
+use Rattle.groups.proofs.Groups.{top-of, top-top, tops-weight}
+use Rattle.packing.proofs.Blocks.{topIn}
 
 module _ {p w : List ℕ} {B : ℕ} (d : Divisible p w B) where
   s : Sound p
@@ -28,13 +28,6 @@ module _ {p w : List ℕ} {B : ℕ} (d : Divisible p w B) where
 
   u : length p ≤ absent
   u = omega (arith, d .few)
-
-  module _ {now link : List ℕ} (c : Cuts p w B now link) (e : length link ≡ length p) where
-    pub cuts-hanging : Hanging link
-    cuts-hanging = hanging-up s u (cut p w B) link e (c .held)
-
-    pub cuts-grouped : {tops : List ℕ} → Tops link tops → length tops ≡ length link → Grouped p w B now tops
-    cuts-grouped t f = record { weights = c .table; table = climbed-tops s u (cut p w B) link e (c .held) t f }
 
   module _ {now tops : List ℕ} (c : Grouped p w B now tops) where
     tops-size : length tops ≡ length p

@@ -14,21 +14,21 @@ use native.Mathlib.Omega.{arith}
 use lib.Dec.{eqb}
 use lib.ListN.{length, getD}
 use borrow.Author.Tests.{eqb-true}
-use Rattle.game.specs.Table.{tabulate, sum}
+use Rattle.game.specs.Table.{tabulate, sum, filtered}
 use Rattle.game.specs.Game.{absent}
 use Rattle.game.proofs.Sound.{Sound, sound-true}
 use Rattle.game.proofs.Tables.{tabulate-entry}
-use Rattle.partition.specs.Cut.{such, carried, cut, top, isTop, groupWeight}
-use Rattle.partition.specs.Pack.{loadsBelow, blockOf, largest}
+use Rattle.groups.specs.Cut.{carried, cut, top, isTop, groupWeight}
+use Rattle.packing.specs.Pack.{loadsBelow, blockOf, largest}
 use Rattle.game.specs.Net.{net}
 use Rattle.partition.specs.Divide.{divided}
-use Rattle.partition.specs.Work.{Divisible, Grouped}
-use Rattle.partition.proofs.Lists.{test-cases, stretch, stretch-in, sum-agree}
-use Rattle.partition.proofs.Sums.{only, total-such}
-use Rattle.partition.proofs.Carried.{entry, greedy-carrying, carried-fits}
-use Rattle.partition.proofs.Groups.{top-up, parent-higher, group-weight, chosen-weight}
-use Rattle.partition.proofs.BlockLoads.{loads-length, loads-sum, load-entry, loads-even, sum-spread}
-use Rattle.partition.proofs.Blocks.{topIn}
+use Rattle.groups.specs.Steps.{Divisible, Grouped}
+use Rattle.groups.proofs.Lists.{test-cases, stretch, stretch-in, sum-agree}
+use Rattle.groups.proofs.Sums.{only, total-filtered}
+use Rattle.groups.proofs.Carried.{entry, greedy-carrying, carried-fits}
+use Rattle.groups.proofs.Groups.{top-up, parent-higher, group-weight, chosen-weight}
+use Rattle.packing.proofs.BlockLoads.{loads-length, loads-sum, load-entry, loads-even, sum-spread}
+use Rattle.packing.proofs.Blocks.{topIn}
 use Rattle.partition.proofs.Divided.{tops-entry, groups-weight}
 
 -- a bound on every load bounds the largest
@@ -130,7 +130,7 @@ module _ {p w : List ℕ} {B : ℕ} (d : Divisible p w B) where
 
     -- the load of a block is the weight of its vertices
     pub block-load : (j : ℕ) → j < k → getD (divided (net p w) B k .blockLoads) j 0
-        ≡ sum (map (λ (x : ℕ). getD w x 0) (such (λ (x : ℕ). eqb (getD (divided (net p w) B k .block) x 0) j) (tabulate (length p) (λ (x : ℕ). x))))
+        ≡ sum (map (λ (x : ℕ). getD w x 0) (filtered (λ (x : ℕ). eqb (getD (divided (net p w) B k .block) x 0) j) (tabulate (length p) (λ (x : ℕ). x))))
     unfolding tabulate
     block-load j h =
         ap (λ (v : List ℕ). getD v j 0) loads-are
@@ -140,7 +140,7 @@ module _ {p w : List ℕ} {B : ℕ} (d : Divisible p w B) where
         ∙ sym (chosen-weight s u (λ x. eqb (blockIn x) j) (λ x g e. ap (λ (v : ℕ). eqb v j) (joined x g e)) (greedy-carrying s u w B))
         ∙ sum-agree (λ x. only (eqb (blockIn x) j) (entry w x)) (λ x. only (eqb (getD (divided (net p w) B k .block) x 0) j) (entry w x)) ranks
         (λ x m. ap (λ (v : ℕ). only (eqb v j) (entry w x)) (sym (blocks-are x (inside m))))
-        ∙ sym (total-such (λ x. eqb (getD (divided (net p w) B k .block) x 0) j) (entry w) ranks)
+        ∙ sym (total-filtered (λ x. eqb (getD (divided (net p w) B k .block) x 0) j) (entry w) ranks)
       where
         ranks : List ℕ
         ranks = stretch 0 (length p)

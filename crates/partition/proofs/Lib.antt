@@ -1,21 +1,5 @@
 -- Laws of dividing, by subject. Nothing here needs to be believed: it is all proved.
-pub mod Lists
-pub mod Best
-pub mod Trimming
-pub mod Carried
-pub mod Sums
-pub mod Groups
-pub mod BlockLoads
 pub mod Refused
-pub mod Chains
-pub mod Scan
-pub mod Turns
-pub mod Halving
-pub mod Filing
-pub mod Lightening
-pub mod Ranks
-pub mod Climbing
-pub mod Winners
-pub mod Blocks
 pub mod Divided
 pub mod Laws
+pub mod Division

@@ -14,16 +14,19 @@ use lib.Seq.{drop-cons}
 use borrow.Author.Tests.{lt-ltb, le-ltb, le-leb, lt-leb, ltb-false}
 use Rattle.game.specs.Table.{sum}
 use Rattle.refusal.specs.Refusal.{given, badCount, wrongLength}
+use Rattle.refusal.specs.Verdict.{accepted, refused}
 use Rattle.refusal.specs.Outcome.{ended}
 use Rattle.refusal.proofs.Ends.{ends-refused, ends-accepted}
-use Rattle.refusal.proofs.First.{pass, stop, first-none, given-none, length-right, good-count}
+use Rattle.refusal.proofs.First.{pass, stop, first-end, first-none, given-none, length-right, good-count}
 use Rattle.game.specs.Net.{Net, net}
 use Rattle.net.specs.Damage.{damagedBy, damaged}
 use Rattle.net.proofs.Scan.{undamaged}
 use Rattle.game.proofs.Bools.{or-neither}
 use Rattle.game.proofs.Sound.{true-sound}
-use Rattle.partition.specs.Work.{Divisible, Fitting}
-use Rattle.partition.specs.Divide.{outside, badLimits, tooHeavy, maxLimit, maxBlocks, Tables, wrongTables, divideRefusal, divided, divideOutcome}
+use Rattle.partition.specs.Steps.{Fitting}
+use Rattle.groups.specs.Steps.{Divisible}
+use Rattle.partition.specs.Divide.{outside, badLimits, tooHeavy, maxLimit, Tables, wrongTables, divideRefusal, divided, divideOutcome}
+use Rattle.packing.specs.Pack.{maxBlocks}
 
 module _ (most v : ℕ) where
   pub outside-low : v < 1 → outside most v ≡ true
@@ -103,6 +106,19 @@ tables-not net k was e =
     b : Bool
     b = wrongLength (length (was .block)) n
 
+-- 2, by the lengths that the code compares
+pub tables-as : (net : Net) (k : ℕ) (was : Tables) {blocks : ℕ} {r : Bool} → blocks ≡ k
+    → r ≡ (wrongLength (length (net .weights)) (length (net .parents)) || wrongLength (length (was .carried)) (length (net .parents)) || wrongLength (length (was .top)) (length (net .parents)) || wrongLength (length (was .block)) (length (net .parents)) || wrongLength (length (was .blockLoads)) blocks)
+    → wrongTables net k was ≡ r
+unfolding wrongTables
+tables-as net k was q e = sym (e ∙ rw q refl)
+
+-- the first of the five lengths
+pub first-sized : (has needs : ℕ) (c t b l : Bool) → (wrongLength has needs || c || t || b || l) ≡ false → has ≡ needs
+first-sized has needs c t b l e =
+    let w = wrongLength has needs in
+    length-right has needs (or-neither w c (or-neither (w || c) t (or-neither (w || c || t) b (or-neither (w || c || t || b) l e .0) .0) .0) .0)
+
 -- a net's damage, by its summary
 pub damaged-as : (p w : List ℕ) {s : ℕ} {r : Bool} → s ≡ sum w → r ≡ damagedBy p s → damaged (net p w) ≡ r
 unfolding damaged
@@ -155,7 +171,7 @@ module _ (net : Net) (B k : ℕ) (was : Tables) where
 
           pub refused-not : tooHeavy B (net .weights) ≡ false → divideRefusal net B k was ≡ 0
           unfolding divideRefusal
-          refused-not e = pass 1 sizes e₁ ∙ pass 2 limits e₂ ∙ pass 8 damage e₃ ∙ pass 30 heavy e₄ ∙ pass 22 [] e
+          refused-not e = pass 1 sizes e₁ ∙ pass 2 limits e₂ ∙ pass 8 damage e₃ ∙ pass 30 heavy e₄ ∙ pass 22 [] e ∙ first-end
 
 -- what an accepted call knows
 pub record Accepted (p w : List ℕ) (B k : ℕ) (was : Tables) : Type 0 where
@@ -163,9 +179,9 @@ pub record Accepted (p w : List ℕ) (B k : ℕ) (was : Tables) : Type 0 where
   pub tables : Fitting (length p) was
   pub blocks : length (was .blockLoads) ≡ k
 
-pub accepted : (p w : List ℕ) (B k : ℕ) (was : Tables) → divideRefusal (net p w) B k was ≡ 0 → Accepted p w B k was
-unfolding divideRefusal
-accepted p w B k was e =
+pub divide-known : (p w : List ℕ) (B k : ℕ) (was : Tables) → divideRefusal (net p w) B k was ≡ 0 → Accepted p w B k was
+unfolding divideRefusal damaged
+divide-known p w B k was e =
     let a = first-none (given (badCount (length p)) 1) (sizes (net p w) B k was) e in
     let b = first-none (given (wrongTables (net p w) k was) 2) (limits (net p w) B k was) (a .1) in
     let c = first-none (given (badLimits B k) 8) (damage (net p w) B k was) (b .1) in
@@ -191,11 +207,11 @@ accepted p w B k was e =
 
 -- how Divide ends
 module _ (net : Net) (B k : ℕ) (was : Tables) {m : ℕ} (e : m ≡ divideRefusal net B k was) where
-  pub divide-refused : (m ≡ 0 → ⊥) → ended m was ≡ divideOutcome net B k was
+  pub divide-refused : (m ≡ 0 → ⊥) → ended (refused m) was ≡ divideOutcome net B k was
   unfolding divideOutcome
-  divide-refused d = ends-refused (divideRefusal net B k was) was (divided net B k) e (λ z. d (e ∙ z)) refl
+  divide-refused d = ends-refused (divideRefusal net B k was) tt was (divided net B k) e (λ z. d (e ∙ z)) refl
 
-  pub divide-accepted : m ≡ 0 → {j : ℕ} {new : Tables} → j ≡ k → new ≡ divided net B j → ended 0 new ≡ divideOutcome net B k was
+  pub divide-accepted : m ≡ 0 → {j : ℕ} {new : Tables} → j ≡ k → new ≡ divided net B j → ended (accepted tt) new ≡ divideOutcome net B k was
   unfolding divideOutcome
   divide-accepted z f g =
-      ends-accepted (divideRefusal net B k was) was (divided net B k) (sym z ∙ e) (sym e ∙ z) (g ∙ ap (divided net B) f)
+      ends-accepted (divideRefusal net B k was) tt was (divided net B k) refl (sym e ∙ z) (g ∙ ap (divided net B) f)

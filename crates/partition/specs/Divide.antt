@@ -11,18 +11,14 @@ use lib.ListN.{length, getD}
 use Rattle.game.specs.Table.{tabulate, some-entry}
 use Rattle.game.specs.Net.{Net}
 use Rattle.refusal.specs.Refusal.{given, first, badCount, wrongLength}
-use Rattle.refusal.specs.Outcome.{Outcome, decided}
+use Rattle.refusal.specs.Outcome.{Done, done}
 use Rattle.net.specs.Damage.{damaged}
-use Rattle.partition.specs.Cut.{carried, cutBy, top}
-use Rattle.partition.specs.Pack.{loadsBelow, blockOf}
+use Rattle.groups.specs.Cut.{carried, cutBy, top}
+use Rattle.packing.specs.Pack.{maxBlocks, loadsBelow, blockOf}
 
 -- "B not 1 to 16,000,000"
 abbrev pub maxLimit : ℕ
 maxLimit = 16_000_000
-
--- "k not 1 to 1,000"
-abbrev pub maxBlocks : ℕ
-maxBlocks = 1_000
 
 -- "not 1 to" a largest
 unfoldable pub outside : ℕ → ℕ → Bool
@@ -74,7 +70,6 @@ wrongTables net k was =
 
 -- the number for which Divide is refused, or 0; `was` are the tables as they were lent
 unfoldable pub divideRefusal : Net → ℕ → ℕ → Tables → ℕ
-unfolding first given badCount wrongTables badLimits damaged tooHeavy
 divideRefusal net B k was =
     first
     (given (badCount (length (net .parents))) 1
@@ -84,6 +79,5 @@ divideRefusal net B k was =
     ∷ given (tooHeavy B (net .weights)) 22
     ∷ [])
 
-unfoldable pub divideOutcome : Net → ℕ → ℕ → Tables → Outcome Tables
-unfolding decided divideRefusal divided
-divideOutcome net B k was = decided (divideRefusal net B k was) was (divided net B k)
+unfoldable pub divideOutcome : Net → ℕ → ℕ → Tables → Done Tables
+divideOutcome net B k was = done (divideRefusal net B k was) was (divided net B k)

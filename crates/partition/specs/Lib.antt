@@ -1,6 +1,5 @@
--- How a forest is divided: cutting, packing, and the call that does both.
-pub mod Cut
-pub mod Pack
+-- The call that divides a forest: what it is refused for, what it writes, and what is claimed of it.
 pub mod Divide
+pub mod Division
 pub mod Paper
-pub mod Work
+pub mod Steps

@@ -4,13 +4,15 @@ use mathlib.Core.Path.{_≡_, refl}
 use mathlib.Core.List.{List, [], _∷_}
 use Prim.Native.Nat.{ℕ}
 use lib.ListN.{replicate}
+use Rattle.game.specs.Table.{sum}
 use Rattle.game.specs.Game.{absent}
 use Rattle.game.specs.Net.{Net}
 use Rattle.game.specs.Tree.{sound}
-use Rattle.net.specs.Damage.{damagedBy}
-use Rattle.refusal.specs.Refusal.{unless}
-use Rattle.refusal.specs.Outcome.{Outcome, ended}
-use Rattle.partition.specs.Divide.{Tables, tables, divideOutcome}
+use Rattle.net.specs.Damage.{damagedBy, damaged}
+use Rattle.refusal.specs.Refusal.{given, first, unless, badCount}
+use Rattle.refusal.specs.Verdict.{accepted, refused, judged}
+use Rattle.refusal.specs.Outcome.{Done, ended, decided}
+use Rattle.partition.specs.Divide.{Tables, tables, badLimits, tooHeavy, divided, wrongTables, divideRefusal, divideOutcome}
 
 -- the net of the whole case, by rank
 net : Net
@@ -21,7 +23,7 @@ lent : ℕ → Tables
 lent k = tables (replicate 6 7) (replicate 6 7) (replicate 6 7) (replicate k 7)
 
 -- B = 4 and k = 2; B = 3; k = 1; B = 2, which is refused; a block count of 0, and a table too long for it
-pub computed : List (Outcome Tables)
+pub computed : List (Done Tables)
 computed =
     divideOutcome net 4 2 (lent 2)
     ∷ divideOutcome net 3 2 (lent 2)
@@ -31,16 +33,16 @@ computed =
     ∷ divideOutcome net 4 0 (lent 1)
     ∷ []
 
-pub printed : List (Outcome Tables)
+pub printed : List (Done Tables)
 printed =
-    ended 0 (tables (3 ∷ 2 ∷ 4 ∷ 2 ∷ 2 ∷ 2 ∷ []) (2 ∷ 5 ∷ 2 ∷ 5 ∷ 5 ∷ 5 ∷ []) (0 ∷ 1 ∷ 0 ∷ 1 ∷ 1 ∷ 1 ∷ []) (4 ∷ 2 ∷ []))
-    ∷ ended 0 (tables (3 ∷ 2 ∷ 1 ∷ 2 ∷ 3 ∷ 3 ∷ []) (0 ∷ 5 ∷ 5 ∷ 5 ∷ 5 ∷ 5 ∷ []) (0 ∷ 1 ∷ 1 ∷ 1 ∷ 1 ∷ 1 ∷ []) (3 ∷ 3 ∷ []))
-    ∷ ended 0 (tables (3 ∷ 2 ∷ 4 ∷ 2 ∷ 2 ∷ 2 ∷ []) (2 ∷ 5 ∷ 2 ∷ 5 ∷ 5 ∷ 5 ∷ []) (replicate 6 0) (6 ∷ []))
-    ∷ ended 22 (lent 2)
-    ∷ ended 8 (lent 0)
-    ∷ ended 2 (lent 1)
+    ended (accepted tt) (tables (3 ∷ 2 ∷ 4 ∷ 2 ∷ 2 ∷ 2 ∷ []) (2 ∷ 5 ∷ 2 ∷ 5 ∷ 5 ∷ 5 ∷ []) (0 ∷ 1 ∷ 0 ∷ 1 ∷ 1 ∷ 1 ∷ []) (4 ∷ 2 ∷ []))
+    ∷ ended (accepted tt) (tables (3 ∷ 2 ∷ 1 ∷ 2 ∷ 3 ∷ 3 ∷ []) (0 ∷ 5 ∷ 5 ∷ 5 ∷ 5 ∷ 5 ∷ []) (0 ∷ 1 ∷ 1 ∷ 1 ∷ 1 ∷ 1 ∷ []) (3 ∷ 3 ∷ []))
+    ∷ ended (accepted tt) (tables (3 ∷ 2 ∷ 4 ∷ 2 ∷ 2 ∷ 2 ∷ []) (2 ∷ 5 ∷ 2 ∷ 5 ∷ 5 ∷ 5 ∷ []) (replicate 6 0) (6 ∷ []))
+    ∷ ended (refused 22) (lent 2)
+    ∷ ended (refused 8) (lent 0)
+    ∷ ended (refused 2) (lent 1)
     ∷ []
 
 pub paper : computed ≡ printed
-unfolding computed printed net lent divideOutcome damagedBy unless sound
+unfolding computed printed net lent divideOutcome divideRefusal decided first given badCount wrongTables badLimits tooHeavy divided damaged damagedBy unless judged sound sum
 paper = refl

@@ -1,18 +1,21 @@
 // The call Divide: what it refuses, and the tables that it writes.
-use crate::grouping::group;
-use crate::index::wide;
 use crate::limits::bad_limits;
 use crate::limits::too_heavy;
-use crate::packing::assign;
-use net::Forest;
+use groups::group;
+use net::Net;
+use packing::assign;
 use refusal::Answer;
+use table::wide;
 ghost use mathlib.Core.Path.{_≡_};
+ghost use mathlib.Core.Bool.{_||_};
 ghost use lib.ListN.{length};
-ghost use Rattle.refusal.specs.Answer.{number};
+ghost use Rattle.refusal.specs.Refusal.{wrongLength};
+ghost use Rattle.refusal.specs.Answer.{verdict};
 ghost use Rattle.refusal.specs.Outcome.{ended};
 ghost use Rattle.game.specs.Net.{net};
-ghost use Rattle.partition.specs.Divide.{tables, divided, wrongTables, divideRefusal, divideOutcome};
-ghost use Rattle.partition.specs.Work.{Divisible, Fitting};
+ghost use Rattle.partition.specs.Divide.{tables, divided, divideRefusal, divideOutcome};
+ghost use Rattle.partition.specs.Steps.{Fitting};
+ghost use Rattle.groups.specs.Steps.{Divisible};
 
 // Divides a net that nothing speaks against: carried weight, top and block of each vertex, and the load of each block.
 pub fn cut_and_pack(
@@ -35,28 +38,19 @@ pub fn cut_and_pack(
     assign(top, carried, block, block_loads);
 }
 
-// Refusal 2: a table of the wrong length. The loads are a table of the block count that is given, the others of the vertex count.
-fn wrong_tables(
-    parents: &[u32],
-    weights: &[u32],
-    blocks: u32,
-    carried: &[u32],
-    top: &[u32],
-    block: &[u32],
-    block_loads: &[u32],
+// Refusal 2, by the tables' lengths: the loads are a table of the k blocks that are given, the others of n vertices.
+pub fn wrong_tables(
+    n: usize,
+    k: usize,
+    weights: usize,
+    carried: usize,
+    top: usize,
+    block: usize,
+    block_loads: usize,
 ) -> bool
-    ensures { λ r. ⌜
-        r
-        ≡ wrongTables (net (now (parents .entry)) (now (weights .entry))) blocks
-        (tables (now (carried .entry)) (now (top .entry)) (now (block .entry)) (now («block_loads» .entry)))
-        ⌝ }
+    ensures { λ r. ⌜ r ≡ (wrongLength weights n || wrongLength carried n || wrongLength top n || wrongLength block n || wrongLength «block_loads» k) ⌝ }
 {
-    let n = parents.len();
-    (weights.len() != n)
-        | (carried.len() != n)
-        | (top.len() != n)
-        | (block.len() != n)
-        | (block_loads.len() != wide(blocks))
+    (weights != n) | (carried != n) | (top != n) | (block != n) | (block_loads != k)
 }
 
 // The number for which dividing is refused, or 0. The tables that would be written are only looked at for their lengths.
@@ -79,13 +73,21 @@ fn divide_refusal(
     if refusal::bad_count(parents.len()) {
         return 1;
     }
-    if wrong_tables(parents, weights, blocks, carried, top, block, block_loads) {
+    if wrong_tables(
+        parents.len(),
+        wide(blocks),
+        weights.len(),
+        carried.len(),
+        top.len(),
+        block.len(),
+        block_loads.len(),
+    ) {
         return 2;
     }
     if bad_limits(limit, blocks) {
         return 8;
     }
-    if Forest::of(parents, weights).is_damaged(parents) {
+    if Net::of(weights).is_damaged(parents) {
         return 30;
     }
     if too_heavy(limit, weights) {
@@ -108,7 +110,7 @@ pub fn divide(
     block_loads: &mut [u32],
 ) -> Answer
     ensures { λ r. ⌜
-        ended (number r) (tables (now (carried .exit)) (now (top .exit)) (now (block .exit)) (now («block_loads» .exit)))
+        ended (verdict r) (tables (now (carried .exit)) (now (top .exit)) (now (block .exit)) (now («block_loads» .exit)))
         ≡ divideOutcome (net (now (parents .entry)) (now (weights .entry))) limit blocks
         (tables (now (carried .entry)) (now (top .entry)) (now (block .entry)) (now («block_loads» .entry)))
         ⌝ }

@@ -1,7 +1,6 @@
 // The limits of a division, and what goes beyond them.
 ghost use mathlib.Core.Path.{_≡_};
 ghost use Prim.Native.Nat.{_<_};
-ghost use Rattle.refusal.specs.Answer.{number};
 ghost use Rattle.partition.specs.Divide.{outside, badLimits, tooHeavy};
 
 // The largest limit on the weight of a group.

@@ -19,8 +19,8 @@ use Rattle.game.specs.Tree.{ancestors, under}
 use Rattle.game.specs.Net.{enters, reach}
 use Rattle.game.proofs.Bools.{or-cases, or-left, or-right, and-both, both-and}
 use Rattle.game.proofs.Tables.{member-in, in-member}
-use Rattle.game.proofs.Conn.{Linked, forth, back, Conn, stay, go, conn-to, conn-up, conn-sym, conn-step, conn-trans, linked-sym, linked-cases, within-conn}
-use Rattle.game.proofs.Proper.{Proper}
+use Rattle.game.proofs.Conn.{Conn, stay, go, conn-to, conn-up, conn-sym, conn-step, conn-trans, linked-sym, linked-cases, within-conn}
+use Rattle.game.specs.Graph.{Linked, forth, back, Proper}
 use Rattle.game.proofs.Sound.{Sound}
 use Rattle.game.proofs.Filled.{higher-linked, linked-higher, clique-in, Low, once, more, low-filled}
 use Rattle.game.proofs.Climbs.{climbs-conn, conn-climbs}

@@ -1,35 +1,34 @@
 -- What a net that is the net of its edges gives to each stage of the count.
 -- Assumes nothing.
 use mathlib.Core.Path.{_≡_, refl, sym, ap, _∙_}
-use mathlib.Core.Logic.{by-cases}
+use mathlib.Core.Logic.{by-cases, ⊎-elim}
 use mathlib.Core.List.{List, [], _∷_, List·Memᴰ, List·Memᴰ·not-nil, List·Memᴰ·cases-cons}
-use mathlib.Core.Logic.{⊎-elim}
-use Prim.Native.Nat.{ℕ, _≤_, _<_, min, max}
+use Prim.Native.Nat.{ℕ, _+_, _≤_, _<_, min, max}
+use lib.Dec.{eqb}
 use native.Mathlib.Nat.{min-eq-left, min-eq-right, max-eq-left, max-eq-right}
 use native.Mathlib.Decide.{decLe}
 use native.Mathlib.Omega.{arith}
 use lib.ListN.{length, getD, replicate, length-replicate, getD-replicate}
 use Rattle.game.specs.Edge.{Edge, _─_, lower, upper, edges}
 use Rattle.game.specs.Game.{absent}
-use Rattle.game.specs.Table.{sum}
+use Rattle.game.specs.Table.{tabulate, sum, one-if, count}
 use Rattle.game.specs.Tree.{ancestors}
-use Rattle.game.specs.Net.{weights}
-use Rattle.game.proofs.Conn.{Linked}
-use Rattle.game.proofs.Tables.{member-in}
-use Rattle.game.proofs.Proper.{Proper, linked-ends, linked-tail, same, turned, edge-left, edge-right}
+use Rattle.game.specs.Graph.{Linked, Proper}
+use Rattle.game.proofs.Tables.{member-in, tabulate-length, tabulate-entry, tabulate-ext, tabulate-const, sum-tabulate-add, sum-zeros}
+use Rattle.game.proofs.Proper.{proper-head, proper-tail, linked-ends, linked-tail, same, turned, edge-left, edge-right}
 use Rattle.game.proofs.Sound.{Sound, sound-parent, getD-default}
 use Rattle.game.proofs.Links.{link-of}
 use Rattle.game.proofs.Climbs.{Climbs, top, up}
 use Rattle.game.proofs.Forest.{forest-sound}
 use Rattle.game.proofs.Ancestors.{ancestor-above, edge-ends}
-use Rattle.game.proofs.Weights.{weights-length, weights-entry, weights-sum}
+use Rattle.game.proofs.Weights.{share, share-one, sum-share}
 use Rattle.refusal.proofs.Fault.{faultless-proper}
 use Rattle.reach.specs.Balance.{Summable}
 use Rattle.reach.specs.Jumps.{Jumps}
 use Rattle.reach.specs.Layout.{Layout}
 use Rattle.reach.specs.Filed.{upward, Fileable, Filed, Marked}
 use Rattle.reach.specs.Visit.{Slotted, Empty}
-use Rattle.reach.specs.Given.{IsNetOf}
+use Rattle.reach.specs.Given.{lowerCount, lowerCounts, Given}
 use Rattle.reach.proofs.Subtree.{climbs-rest}
 
 -- an edge of the list, written upward, joins its two ends
@@ -70,7 +69,17 @@ empty-tables {a = a} {b = b} ends s ea ep eo ha hb =
       zero = λ x h. rw (eo, getD-replicate {A = ℕ} b x 0 0 (omega arith));
     }
 
-module _ {p w xs : List ℕ} (g : IsNetOf p w xs) where
+-- each edge is counted once
+counts-sum : {n : ℕ} {es : List Edge} → Proper n es → sum (lowerCounts n es) ≡ length es
+unfolding lowerCounts lowerCount count lower
+counts-sum {n} {es = []} proper = ap sum (tabulate-const n (lowerCount []) 0 (λ i h. refl)) ∙ sum-zeros n
+counts-sum {n} {es = (a ─ b) ∷ es} proper =
+    let (ha, hb, d) = proper-head proper in
+    let one : sum (tabulate n (λ (x : ℕ). one-if (eqb (min a b) x))) ≡ 1 =
+    ap sum (tabulate-ext n _ (share 1 (min a b)) (λ x h. sym (share-one (min a b) x))) ∙ sum-share 1 n (min a b) (omega arith) in
+    omega (arith, sum-tabulate-add n (λ (x : ℕ). one-if (eqb (min a b) x)) (lowerCount es), one, counts-sum (proper-tail proper))
+
+module _ {p w xs : List ℕ} (g : Given p w xs) where
   -- the edges are a proper graph
   net-proper : Proper (length p) (edges xs)
   net-proper = faultless-proper (length p) (edges xs) (g .faultless)
@@ -84,13 +93,21 @@ module _ {p w xs : List ℕ} (g : IsNetOf p w xs) where
 
   -- there is one share for each edge
   pub net-total : sum w ≡ length (edges xs)
-  net-total = ap sum (g .weights) ∙ weights-sum net-proper
+  net-total = ap sum (g .counts) ∙ counts-sum net-proper
 
-  -- the weights can be summed up
+  counts-length : length (lowerCounts (length p) (edges xs)) ≡ length p
+  unfolding lowerCounts
+  counts-length = tabulate-length (length p) (lowerCount (edges xs))
+
+  counts-entry : (x : ℕ) → x < length p → getD (lowerCounts (length p) (edges xs)) x 0 ≡ lowerCount (edges xs) x
+  unfolding lowerCounts
+  counts-entry x h = tabulate-entry (length p) (lowerCount (edges xs)) x 0 h
+
+  -- the counts can be summed up
   pub net-summable : Summable p w
   net-summable =
       let few = g .few in
-      record { sound = net-sound; short = g .vertices; entries = ap length (g .weights) ∙ weights-length (length p) (edges xs); few = omega (arith, net-total) }
+      record { sound = net-sound; short = g .vertices; entries = ap length (g .counts) ∙ counts-length; few = omega (arith, net-total) }
 
   -- slots that are laid out by them are for its edges
   pub net-fileable : {stops ends : List ℕ} {m : ℕ} → Layout p w stops ends m → m ≡ length (edges xs) → Fileable p w stops ends (edges xs) m
@@ -98,7 +115,7 @@ module _ {p w xs : List ℕ} (g : IsNetOf p w xs) where
       record {
         layout = l;
         proper = net-proper;
-        weights = λ x h. ap (λ z. getD z x 0) (g .weights) ∙ weights-entry (length p) (edges xs) h;
+        counts = λ x h. ap (λ z. getD z x 0) (g .counts) ∙ counts-entry x h;
       }
 
   -- the edges go up the forest

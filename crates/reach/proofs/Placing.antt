@@ -21,7 +21,7 @@ pub record Stage (p w size ends stops : List ℕ) (m i top : ℕ) : Type 0 where
   pub subtrees : Subtrees p w (entryOf size) m
   pub placed : Placed p w (entryOf size) m i (λ x. getD ends x 0 - getD size x 0) (λ x. getD stops x top) (entryOf ends)
 
--- the plain facts beside it: below i the subtree weights are not yet overwritten
+-- the plain facts beside it: below i the subtree counts are not yet overwritten
 pub record Tables (p size ends stops : List ℕ) (i : ℕ) : Type 0 where
   pub below : i ≤ length p
   pub ends-entries : length ends ≡ length p
@@ -81,14 +81,14 @@ module _ {p w size ends stops : List ℕ} {m top′ : ℕ} (t : Tables p size en
           ⊎-elim
           (λ (a : x ≡ absent).
           let n = stage .subtrees .short in
-          let none : getD w x 0 ≡ 0 = List·getD-eq-default w 0 (rw (a, stage .subtrees .weights) n) in
+          let none : getD w x 0 ≡ 0 = List·getD-eq-default w 0 (rw (a, stage .subtrees .counts) n) in
           let past : getD ends x 0 ≡ 0 = List·getD-eq-default ends 0 (rw (a, t .ends-entries) n) in
           absurd (omega (arith, d .room x (inl a) (omega arith))))
           (λ (h : x < length p).
           (x, record { inside = rw (t .stops-entries) h; from = omega (arith, own-room h); to = rw (← (free-read h)) upper }))
           (g .place)
 
--- the turn of the loop at the vertex x − 1, with its parent and its subtree's weight as they are read
+-- the turn of the loop at the vertex x − 1, with its parent and its subtree's count as they are read
 module _ {p size ends stops : List ℕ} {x : ℕ} (h : 0 < x) (t : Tables p size ends stops x) where
   inside : x - 1 < length p
   inside = let b : x ≤ length p = t .below in omega arith

@@ -1,4 +1,4 @@
--- Stretches of slots along a forest: by falling rank each vertex takes a stretch, as long as its subtree's weight, from the back
+-- Stretches of slots along a forest: by falling rank each vertex takes a stretch, as long as its subtree's count, from the back
 -- of what its parent has left of its own; the roots take theirs from all the slots, as if `absent` were their parent. In the end
 -- a slot lies in the stretch of z exactly if the vertex that has it left is under z.
 -- Assumes nothing.
@@ -224,4 +224,4 @@ module _ {p w : List ℕ} {size : ℕ → ℕ} {m : ℕ} (st : Subtrees p w size
       }
     where
       none : getD w absent 0 ≡ 0
-      none = List·getD-eq-default w 0 (rw (st .weights) (st .short))
+      none = List·getD-eq-default w 0 (rw (st .counts) (st .short))

@@ -48,12 +48,12 @@ unfolding sum
 summed-roots {p} {own} {t} d =
     omega (arith, d .total, sum-end t (length p) (rw (d .entries) (le-refl (length p))), ap sum (take-nil {A = ℕ} (length p)))
 
--- so the table then has the weights of the subtrees
+-- so the table then has the counts of the subtrees
 pub summed-subtrees : {p own t : List ℕ} {i : ℕ} → Summable p own → i ≡ length p → Summed p own [] i t → Subtrees p own (entryOf t) (sum own)
 summed-subtrees {p} {own} {t} g e d =
     let s = g .short in
     let last : Summed p own [] (length p) t = rw e at d in
-    record { sound = g .sound; short = omega arith; weights = g .entries; balance = summed-balanced last; roots = summed-roots last }
+    record { sound = g .sound; short = omega arith; counts = g .entries; balance = summed-balanced last; roots = summed-roots last }
 
 -- v is what i has, and has been added at its parent
 record Pushed (p t t′ : List ℕ) (i v : ℕ) : Type 0 where

@@ -13,7 +13,8 @@ use lib.Seq.{getD-set-same, getD-set-other}
 use Rattle.game.specs.Edge.{Edge, _─_, lower}
 use Rattle.game.specs.Game.{absent}
 use Rattle.game.specs.Table.{count}
-use Rattle.game.specs.Net.{weight, reach}
+use Rattle.game.specs.Net.{reach}
+use Rattle.reach.specs.Given.{lowerCount}
 use Rattle.game.proofs.Proper.{edge-left, edge-right}
 use Rattle.game.proofs.Climbs.{Climbs, top}
 use Rattle.reach.specs.Balance.{childSum, Balanced}
@@ -100,8 +101,8 @@ pub record Visited (p w stops filed : List ℕ) (k : ℕ) (previous overlaps : L
   pub passed : Passed w stops filed k edges
   pub upward : Upward edges
   pub latest : (y : ℕ) → y < length p → Latest w stops filed k y (getD previous y 0)
-  pub weights : (x : ℕ) → x < length p → weight edges x ≡ min (k + getD w x 0 - getD stops x 0) (getD w x 0)
-  pub balance : (x : ℕ) → x < length p → reach p edges x + getD overlaps x 0 ≡ weight edges x + childSum p (reach p edges) x x
+  pub counts : (x : ℕ) → x < length p → lowerCount edges x ≡ min (k + getD w x 0 - getD stops x 0) (getD w x 0)
+  pub balance : (x : ℕ) → x < length p → reach p edges x + getD overlaps x 0 ≡ lowerCount edges x + childSum p (reach p edges) x x
   pub few : (x : ℕ) → x < length p → getD overlaps x 0 ≤ k
 
 -- what may be passed at a slot may be passed later
@@ -165,13 +166,13 @@ module _ {p w stops ends filed first slots : List ℕ} {es : List Edge} (g : Slo
       apart e = d (sym e ∙ sym (s .upper))
 
   -- the lower end weighs one more
-  weight-more : (visited : List Edge) (x : ℕ) → weight ((u ─ y) ∷ visited) x ≡ unit u x + weight visited x
-  unfolding weight count lower
+  weight-more : (visited : List Edge) (x : ℕ) → lowerCount ((u ─ y) ∷ visited) x ≡ unit u x + lowerCount visited x
+  unfolding lowerCount count lower
   weight-more visited x = rw (min-eq-left (le-of-lt here))
 
   -- slot k is u's and no other's
-  weight-next : (visited : List Edge) (x : ℕ) → x < length p → weight visited x ≡ min (k + getD w x 0 - getD stops x 0) (getD w x 0)
-      → weight ((u ─ y) ∷ visited) x ≡ min (k + 1 + getD w x 0 - getD stops x 0) (getD w x 0)
+  weight-next : (visited : List Edge) (x : ℕ) → x < length p → lowerCount visited x ≡ min (k + getD w x 0 - getD stops x 0) (getD w x 0)
+      → lowerCount ((u ─ y) ∷ visited) x ≡ min (k + 1 + getD w x 0 - getD stops x 0) (getD w x 0)
   weight-next visited x h e =
       by-cases (ℕ-discrete u x)
       (λ (q : u ≡ x).
@@ -205,7 +206,7 @@ module _ {p w stops ends filed first slots : List ℕ} {es : List Edge} (g : Slo
     reached x = reach-step (g .layout .sound) (g .layout .short) (v .upward) here path x
 
     balance′ : (x : ℕ) → x < length p
-        → reach p ((u ─ y) ∷ v .edges) x + getD overlaps′ x 0 ≡ weight ((u ─ y) ∷ v .edges) x + childSum p (reach p ((u ─ y) ∷ v .edges)) x x
+        → reach p ((u ─ y) ∷ v .edges) x + getD overlaps′ x 0 ≡ lowerCount ((u ─ y) ∷ v .edges) x + childSum p (reach p ((u ─ y) ∷ v .edges)) x x
     balance′ x h =
         let sums : childSum p (reach p ((u ─ y) ∷ v .edges)) x x ≡ childSum p (reach p (v .edges)) x x + childSum p (lit p u r) x x =
         childSum-ext p (reach p ((u ─ y) ∷ v .edges)) (λ z. reach p (v .edges) z + lit p u r z) x x (λ z b. reached z)
@@ -234,7 +235,7 @@ module _ {p w stops ends filed first slots : List ℕ} {es : List Edge} (g : Slo
           passed = passed-next (v .passed);
           upward = record { each = λ a b m. ⊎-elim (λ (e : (a ─ b) ≡ (u ─ y)). rw (edge-left e, edge-right e) here) (v .upward .each a b) (List·Memᴰ·cases-cons m) };
           latest = latest′;
-          weights = λ x h. weight-next (v .edges) x h (v .weights x h);
+          counts = λ x h. weight-next (v .edges) x h (v .counts x h);
           balance = balance′;
           few = λ x h. omega (arith, overlap x, unit-small r x, v .few x h);
         }
@@ -242,14 +243,14 @@ module _ {p w stops ends filed first slots : List ℕ} {es : List Edge} (g : Slo
 module _ {p w stops ends filed first slots : List ℕ} {es : List Edge} (g : Slotted p w es filed stops ends first slots) where
   -- at first no slot is gone over
   visited-first : {ancestor previous overlaps : List ℕ} → Empty p ends ancestor previous overlaps → Visited p w stops filed 0 previous overlaps
-  unfolding weight count
+  unfolding lowerCount count
   visited-first e =
       record {
         edges = [];
         passed = record { all = λ x j o b. absurd (omega arith); placed = λ x y m. absurd (List·Memᴰ·not-nil m) };
         upward = record { each = λ a b m. absurd (List·Memᴰ·not-nil m) };
         latest = λ y h. record { none = λ a x j o b. absurd (omega arith); slot = λ d. absurd (d (e .none y h)) };
-        weights = λ x h. omega (arith, g .layout .room x h);
+        counts = λ x h. omega (arith, g .layout .room x h);
         balance = λ x h. omega (arith, reach-none p x, e .zero x h, childSum-none p (reach p []) x x (λ c l q. reach-none p c));
         few = λ x h. omega (arith, e .zero x h);
       }
@@ -264,7 +265,7 @@ module _ {p w stops ends filed first slots : List ℕ} {es : List Edge} (g : Slo
               arith,
               same x,
               v .balance x l,
-              v .weights x l,
+              v .counts x l,
               g .layout .room x l,
               childSum-ext p (reach p (v .edges)) (reach p es) x x (λ c b. same c),
             );

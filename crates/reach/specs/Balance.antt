@@ -32,10 +32,10 @@ pub record Summable (p own : List ℕ) : Type 0 where
   pub entries : length own ≡ length p
   pub few : sum own ≤ maxEdges
 
--- the weight of each subtree, by the weights of the vertices; the roots have all, which is m
+-- the count of each subtree, by the counts of the vertices; the roots have all, which is m
 pub record Subtrees (p w : List ℕ) (size : ℕ → ℕ) (m : ℕ) : Type 0 where
   pub sound : Sound p
   pub short : length p ≤ absent
-  pub weights : length w ≡ length p
+  pub counts : length w ≡ length p
   pub balance : Balanced p w [] size
   pub roots : childSum p size (length p) absent ≡ m

@@ -3,7 +3,7 @@ use crate::entry::add;
 use crate::layout::lay_out;
 use crate::overlap::count_overlaps;
 use crate::slotting::fill_slots;
-use net::Forest;
+use net::Net;
 ghost use mathlib.Core.Path.{_≡_};
 ghost use Prim.Native.Nat.{ℕ, _+_, _<_};
 ghost use lib.ListN.{length};
@@ -11,7 +11,7 @@ ghost use Rattle.game.specs.Edge.{edges as edgesOf};
 ghost use Rattle.game.specs.Net.{reach as reachOf};
 ghost use Rattle.game.specs.Table.{tabulate};
 ghost use Rattle.reach.specs.Balance.{Balanced, Summable};
-ghost use Rattle.reach.specs.Given.{IsNetOf};
+ghost use Rattle.reach.specs.Given.{Given};
 
 // Sums a table up as `sum_up` does, and takes off at each vertex what `overlaps` has there. The table comes to be the one that
 // balances.
@@ -28,7 +28,7 @@ fn settle(parents: &[u32], overlaps: &[u32], reach: &mut [u32])
         let sum = reach[x] - overlaps[x];
         reach[x] = sum;
         x += 1;
-        if parent != Forest::ABSENT {
+        if parent != Net::ABSENT {
             add(reach, parent, sum);
         }
     }
@@ -39,7 +39,7 @@ fn settle(parents: &[u32], overlaps: &[u32], reach: &mut [u32])
 // each edge.
 pub fn reaches(
     parents: &[u32],
-    weights: &[u32],
+    counts: &[u32],
     edges: &[u32],
     reach: &mut [u32],
     ends: &mut [u32],
@@ -48,18 +48,18 @@ pub fn reaches(
     overlaps: &mut [u32],
     slots: &mut [u32],
 )
-    requires { ⌜ IsNetOf (now parents) (now weights) (now edges) ⌝ }
+    requires { ⌜ Given (now parents) (now counts) (now edges) ⌝ }
     requires { ⌜ (length (now reach) ≡ length (now parents)) × (length (now ends) ≡ length (now parents))
         × (length (now ancestor) ≡ length (now parents)) × (length (now previous) ≡ length (now parents))
         × (length (now overlaps) ≡ length (now parents)) × (length (now slots) ≡ length (edgesOf (now edges))) ⌝ }
     ensures { λ _. ⌜ now (reach .exit)
         ≡ tabulate (length (now (parents .entry))) (reachOf (now (parents .entry)) (edgesOf (now (edges .entry)))) ⌝ }
 {
-    lay_out(parents, weights, slots.len() as u32, ends, ancestor);
-    fill_slots(weights, edges, ancestor, reach, slots);
+    lay_out(parents, counts, slots.len() as u32, ends, ancestor);
+    fill_slots(counts, edges, ancestor, reach, slots);
     count_overlaps(
         parents,
-        weights,
+        counts,
         ends,
         reach,
         slots,
@@ -67,6 +67,6 @@ pub fn reaches(
         ancestor,
         previous,
     );
-    table::copy(weights, reach);
+    table::copy(counts, reach);
     settle(parents, overlaps, reach);
 }

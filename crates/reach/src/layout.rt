@@ -2,7 +2,7 @@
 use crate::entry::add;
 use crate::entry::at;
 use crate::entry::put;
-use net::Forest;
+use net::Net;
 ghost use mathlib.Core.Path.{_≡_};
 ghost use mathlib.Core.List.{List};
 ghost use Prim.Native.Nat.{ℕ, _+_, _<_};
@@ -22,13 +22,13 @@ pub fn sum_up(parents: &[u32], sums: &mut [u32])
         let sum = sums[x];
         let parent = parents[x];
         x += 1;
-        if parent != Forest::ABSENT {
+        if parent != Net::ABSENT {
             add(sums, parent, sum);
         }
     }
 }
 
-// Lays out `total` slots. `ends` holds the weights of the subtrees, and then where the stretch of each vertex ends; `stops` gets
+// Lays out `total` slots. `ends` holds the counts of the subtrees, and then where the stretch of each vertex ends; `stops` gets
 // where the slots of the vertex itself stop, at the front of its stretch. Those come before its children's, so that an edge
 // finds the latest one of its upper end on the way up from itself as often as may be.
 fn place(parents: &[u32], total: u32, ends: &mut [u32], stops: &mut [u32])
@@ -43,7 +43,7 @@ fn place(parents: &[u32], total: u32, ends: &mut [u32], stops: &mut [u32])
         x -= 1;
         let parent = parents[x];
         let size = ends[x];
-        if parent == Forest::ABSENT {
+        if parent == Net::ABSENT {
             stops[x] = top;
             ends[x] = top;
             top -= size;
@@ -56,14 +56,14 @@ fn place(parents: &[u32], total: u32, ends: &mut [u32], stops: &mut [u32])
     }
 }
 
-// Lays out a slot for each edge, from the parents and the weights alone.
-pub fn lay_out(parents: &[u32], weights: &[u32], total: u32, ends: &mut [u32], stops: &mut [u32])
-    requires { ⌜ Summable (now parents) (now weights) ⌝ }
-    requires { ⌜ sumOf (now weights) ≡ total ⌝ }
+// Lays out a slot for each edge, from the parents and the counts alone.
+pub fn lay_out(parents: &[u32], counts: &[u32], total: u32, ends: &mut [u32], stops: &mut [u32])
+    requires { ⌜ Summable (now parents) (now counts) ⌝ }
+    requires { ⌜ sumOf (now counts) ≡ total ⌝ }
     requires { ⌜ (length (now ends) ≡ length (now parents)) × (length (now stops) ≡ length (now parents)) ⌝ }
-    ensures { λ _. ⌜ Layout (now (parents .entry)) (now (weights .entry)) (now (stops .exit)) (now (ends .exit)) total ⌝ }
+    ensures { λ _. ⌜ Layout (now (parents .entry)) (now (counts .entry)) (now (stops .exit)) (now (ends .exit)) total ⌝ }
 {
-    table::copy(weights, ends);
+    table::copy(counts, ends);
     sum_up(parents, ends);
     place(parents, total, ends, stops);
 }

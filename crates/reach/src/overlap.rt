@@ -2,7 +2,7 @@
 use crate::entry::add;
 use crate::entry::at;
 use crate::entry::put;
-use net::Forest;
+use net::Net;
 ghost use mathlib.Core.Path.{_≡_};
 ghost use mathlib.Core.List.{List};
 ghost use Prim.Native.Nat.{ℕ, _+_, _<_};
@@ -20,7 +20,7 @@ fn path_end(k: u32, v: u32, y: u32, ends: &[u32], ancestor: &mut [u32]) -> u32
     ensures { λ r. ⌜ ((p : List ℕ) → Jumps p (now (ends .entry)) (now (ancestor .entry)) k → Under p (now (ends .entry)) k v y
         → Jumps p (now (ends .entry)) (now (ancestor .exit)) k × Found p (now (ends .entry)) k v y r) ⌝ }
 {
-    if v == Forest::ABSENT {
+    if v == Net::ABSENT {
         return y;
     }
     let mut r = v;
@@ -39,7 +39,7 @@ fn path_end(k: u32, v: u32, y: u32, ends: &[u32], ancestor: &mut [u32]) -> u32
 
 // Goes over the slots, and counts at each vertex the edges whose paths end there. The slots of the lower end u stop at `stop`.
 fn visit(
-    weights: &[u32],
+    counts: &[u32],
     ends: &[u32],
     first: &[u32],
     slots: &[u32],
@@ -48,12 +48,12 @@ fn visit(
     previous: &mut [u32],
 )
     requires { ⌜ ((p : List ℕ) × (es : List Edge) × (filed stops : List ℕ)
-        × Slotted p (now weights) es filed stops (now ends) (now first) (now slots)
+        × Slotted p (now counts) es filed stops (now ends) (now first) (now slots)
         × Empty p (now ends) (now ancestor) (now previous) (now overlaps)) ⌝ }
     ensures { λ _. ⌜ ((p : List ℕ) (es : List Edge) (filed stops : List ℕ)
-        → Slotted p (now (weights .entry)) es filed stops (now (ends .entry)) (now (first .entry)) (now (slots .entry))
+        → Slotted p (now (counts .entry)) es filed stops (now (ends .entry)) (now (first .entry)) (now (slots .entry))
         → Empty p (now (ends .entry)) (now (ancestor .entry)) (now (previous .entry)) (now (overlaps .entry))
-        → Balanced p (now (weights .entry)) (now (overlaps .exit)) (reachOf p es)) ⌝ }
+        → Balanced p (now (counts .entry)) (now (overlaps .exit)) (reachOf p es)) ⌝ }
 {
     let mut k: u32 = 0;
     let mut u: u32 = 0;
@@ -62,7 +62,7 @@ fn visit(
         let mut y = at(slots, k);
         if k == stop {
             u = y;
-            stop = k + at(weights, u);
+            stop = k + at(counts, u);
             y = at(first, u);
         }
         let v = at(previous, y);
@@ -76,7 +76,7 @@ fn visit(
 // The same from work tables that hold anything: at first every pointer is the parent, and no edge has been met.
 pub fn count_overlaps(
     parents: &[u32],
-    weights: &[u32],
+    counts: &[u32],
     ends: &[u32],
     first: &[u32],
     slots: &[u32],
@@ -87,13 +87,13 @@ pub fn count_overlaps(
     requires { ⌜ (length (now overlaps) ≡ length (now parents)) × (length (now ancestor) ≡ length (now parents))
         × (length (now previous) ≡ length (now parents)) ⌝ }
     requires { ⌜ ((es : List Edge) × (filed stops : List ℕ)
-        × Slotted (now parents) (now weights) es filed stops (now ends) (now first) (now slots)) ⌝ }
+        × Slotted (now parents) (now counts) es filed stops (now ends) (now first) (now slots)) ⌝ }
     ensures { λ _. ⌜ ((es : List Edge) (filed stops : List ℕ)
-        → Slotted (now (parents .entry)) (now (weights .entry)) es filed stops (now (ends .entry)) (now (first .entry)) (now (slots .entry))
-        → Balanced (now (parents .entry)) (now (weights .entry)) (now (overlaps .exit)) (reachOf (now (parents .entry)) es)) ⌝ }
+        → Slotted (now (parents .entry)) (now (counts .entry)) es filed stops (now (ends .entry)) (now (first .entry)) (now (slots .entry))
+        → Balanced (now (parents .entry)) (now (counts .entry)) (now (overlaps .exit)) (reachOf (now (parents .entry)) es)) ⌝ }
 {
     table::copy(parents, ancestor);
-    table::fill(previous, Forest::ABSENT);
+    table::fill(previous, Net::ABSENT);
     table::fill(overlaps, 0);
-    visit(weights, ends, first, slots, overlaps, ancestor, previous);
+    visit(counts, ends, first, slots, overlaps, ancestor, previous);
 }

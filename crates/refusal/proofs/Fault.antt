@@ -1,6 +1,6 @@
 -- Laws of edge faults, and what a list without a fault is.
 -- Assumes nothing.
-use mathlib.Core.Path.{_≡_, sym, _∙_}
+use mathlib.Core.Path.{_≡_, refl, sym, _∙_}
 use mathlib.Core.List.{List, [], _∷_}
 use Prim.Native.Nat.{ℕ, _+_, _≤_, _<_}
 use native.Mathlib.Omega.{arith}
@@ -10,8 +10,9 @@ use lib.ListN.{length, getD, drop}
 use borrow.Author.Tests.{le-leb, lt-leb, eq-eqb, ne-eqb}
 use Rattle.game.specs.Edge.{Edge, _─_, edges}
 use Rattle.game.proofs.Edges.{edges-drop, edges-end}
-use Rattle.game.proofs.Proper.{Proper, proper-nil, proper-cons}
-use Rattle.refusal.specs.Refusal.{fault, firstFault}
+use Rattle.game.proofs.Proper.{proper-nil, proper-cons, proper-head, proper-tail}
+use Rattle.game.specs.Graph.{Proper}
+use Rattle.refusal.specs.Refusal.{first, fault, firstFault}
 use Rattle.refusal.proofs.First.{first-pass, first-stop, first-last, first-none}
 
 module _ (n a b : ℕ) where
@@ -66,3 +67,11 @@ faultless-proper n ((a ─ b) ∷ es) z =
     let f = first-none (fault n (a ─ b)) (firstFault n es ∷ []) z in
     let k = faultless n a b (f .0) in
     proper-cons (k .0) (k .1) (k .2) (faultless-proper n es (sym (first-last (firstFault n es)) ∙ f .1))
+
+-- and the other way round
+pub proper-faultless : (n : ℕ) (es : List Edge) → Proper n es → firstFault n es ≡ 0
+unfolding firstFault first
+proper-faultless n [] p = refl
+proper-faultless n ((a ─ b) ∷ es) p =
+    let (ha, hb, d) = proper-head p in
+    first-fault-on n (a ─ b) es (fault-none n a b ha hb d) ∙ proper-faultless n es (proper-tail p)

@@ -9,7 +9,8 @@ use lib.ListN.{length, getD, drop}
 use Rattle.game.specs.Edge.{Edge, _─_, edges}
 use Rattle.game.proofs.Bools.{or-neither}
 use Rattle.game.proofs.Edges.{edges-drop, edges-end}
-use Rattle.refusal.specs.Refusal.{fault, firstFault, isFaulty, someFault}
+use Rattle.refusal.specs.Refusal.{fault, firstFault}
+use Rattle.refusal.specs.Steps.{isFaulty, someFault}
 use Rattle.refusal.proofs.Fault.{first-fault-on}
 
 no-number : (p q r : Bool) → (p || q || r) ≡ false → _≡_ {A = ℕ} (cond (p || q) 4 (cond r 5 0)) 0

@@ -46,11 +46,3 @@ fault n (a ─ b) = cond (leb n a || leb n b) 4 (cond (eqb a b) 5 0)
 unfoldable pub firstFault : ℕ → List Edge → ℕ
 firstFault n [] = 0
 firstFault n (e ∷ es) = first (fault n e ∷ firstFault n es ∷ [])
-
--- whether an edge has a fault, and whether one of a list has
-unfoldable pub isFaulty : ℕ → Edge → Bool
-isFaulty n (a ─ b) = leb n a || leb n b || eqb a b
-
-unfoldable pub someFault : ℕ → List Edge → Bool
-someFault n [] = false
-someFault n (e ∷ es) = isFaulty n e || someFault n es

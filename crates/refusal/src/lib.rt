@@ -1,11 +1,14 @@
 // Refusals: the answer type, document 01's limits, and the tests that several calls share.
+use table::wide;
 ghost use mathlib.Core.Path.{_≡_};
 ghost use mathlib.Core.Bool.{true};
 ghost use Prim.Native.Nat.{_+_};
 ghost use Rattle.game.specs.Edge.{edges as edgesOf, _─_};
 ghost use Rattle.refusal.specs.Limits.{maxVertices, maxTotal, maxEdges};
-ghost use Rattle.refusal.specs.Refusal.{badCount, fault, firstFault, isFaulty, someFault};
-ghost use Rattle.refusal.specs.Answer.{number};
+ghost use Rattle.refusal.specs.Refusal.{badCount, fault, firstFault};
+ghost use Rattle.refusal.specs.Verdict.{number};
+ghost use Rattle.refusal.specs.Answer.{verdict};
+ghost use Rattle.refusal.specs.Steps.{isFaulty, someFault};
 
 // The largest number of vertices of a net.
 pub const MAX_VERTICES: usize = 1_000_000;
@@ -19,16 +22,13 @@ pub enum Answer {
     Refused(u32),
 }
 
-impl Answer {
-    // The answer that a number stands for: 0 is accepted.
-    pub fn of(code: u32) -> Answer
-        ensures { λ r. ⌜ number r ≡ code ⌝ }
-    {
-        if code == 0 {
-            Answer::Accepted
-        } else {
-            Answer::Refused(code)
-        }
+// An answer as a number: 0 if it is accepted.
+pub fn code(answer: Answer) -> u32
+    ensures { λ r. ⌜ r ≡ number (verdict answer) ⌝ }
+{
+    match answer {
+        Answer::Accepted => 0,
+        Answer::Refused(number) => number,
     }
 }
 
@@ -37,12 +37,6 @@ pub fn bad_count(n: usize) -> bool
     ensures { λ r. ⌜ r ≡ badCount n ⌝ }
 {
     n == 0 || MAX_VERTICES < n
-}
-
-fn wide(x: u32) -> usize
-    ensures { λ r. ⌜ r ≡ x ⌝ }
-{
-    x as usize
 }
 
 // Refusal 4 or 5 of one edge, or 0.

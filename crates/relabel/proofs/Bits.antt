@@ -10,7 +10,8 @@ use native.Mathlib.Omega.{arith}
 use lib.Pow.{pow-pos, pow-add, shl-exact, shr-lt, shr-shr}
 use lib.ListN.{length, getD, set, replicate}
 use lib.Seq.{getD-set-same, getD-set-other}
-use Rattle.relabel.specs.VertexSet.{bitAt, setBit}
+use Rattle.refusal.specs.Limits.{maxVertices}
+use Rattle.relabel.specs.VertexSet.{setWords, bitAt, setBit}
 
 -- 1 << b
 one-shifted : (b : ℕ) → b < 32 → (1 * 2 ^ b) % 2 ^ 32 ≡ 2 ^ b
@@ -56,38 +57,42 @@ module _ (x b : ℕ) (clear : x / 2 ^ b % 2 ≡ 0) where
   word-room hb hx = let e : 1 + (31 - b) + b ≡ 32 = omega arith in rw e at (room (31 - b) (rw e hx))
 
 -- a number is told by its word and its bit
-number-split : (v w : ℕ) → v / 32 ≡ w / 32 → v % 32 ≡ w % 32 → v ≡ w
+number-split : (v w : ℕ) → v % setWords ≡ w % setWords → v / setWords ≡ w / setWords → v ≡ w
 number-split v w p q = omega arith
 
+-- every vertex has a bit in a word
+bit-below : (v : ℕ) → v < maxVertices → v / setWords < 32
+bit-below v h = omega arith
+
 -- setting a bit as code does it, in a word of 32 bits
-pub set-bit-shifted : (words : List ℕ) (v : ℕ) → set words (v / 32) (getD words (v / 32) 0 + (1 * 2 ^ (v % 32)) % 2 ^ 32) ≡ setBit words v
+pub set-bit-shifted : (words : List ℕ) (v : ℕ) → v < maxVertices → set words (v % setWords) (getD words (v % setWords) 0 + (1 * 2 ^ (v / setWords)) % 2 ^ 32) ≡ setBit words v
 unfolding setBit
-set-bit-shifted words v = rw (one-shifted (v % 32) (omega arith))
+set-bit-shifted words v h = rw (one-shifted (v / setWords) (bit-below v h))
 
 module _ (words : List ℕ) (v : ℕ) (clear : bitAt words v ≡ 0) where
-  pub set-bit-fits : getD words (v / 32) 0 < 2 ^ 32 → getD words (v / 32) 0 + (1 * 2 ^ (v % 32)) % 2 ^ 32 < 2 ^ 32
+  pub set-bit-fits : v < maxVertices → getD words (v % setWords) 0 < 2 ^ 32 → getD words (v % setWords) 0 + (1 * 2 ^ (v / setWords)) % 2 ^ 32 < 2 ^ 32
   unfolding bitAt
-  set-bit-fits h = rw (one-shifted (v % 32) (omega arith)) (word-room (getD words (v / 32) 0) (v % 32) clear (omega arith) h)
+  set-bit-fits l h = rw (one-shifted (v / setWords) (bit-below v l)) (word-room (getD words (v % setWords) 0) (v / setWords) clear (bit-below v l) h)
 
-  pub set-bit-same : v / 32 < length words → bitAt (setBit words v) v ≡ 1
+  pub set-bit-same : v % setWords < length words → bitAt (setBit words v) v ≡ 1
   unfolding bitAt setBit
   set-bit-same h =
-      rw (getD-set-same words (v / 32) (getD words (v / 32) 0 + 2 ^ (v % 32)) 0 h)
-      (word-bit-same (getD words (v / 32) 0) (v % 32) clear)
+      rw (getD-set-same words (v % setWords) (getD words (v % setWords) 0 + 2 ^ (v / setWords)) 0 h)
+      (word-bit-same (getD words (v % setWords) 0) (v / setWords) clear)
 
-  pub set-bit-other : v / 32 < length words → (w : ℕ) → (w ≡ v → ⊥) → bitAt (setBit words v) w ≡ bitAt words w
+  pub set-bit-other : v % setWords < length words → (w : ℕ) → (w ≡ v → ⊥) → bitAt (setBit words v) w ≡ bitAt words w
   unfolding bitAt setBit
   set-bit-other h w d =
-      by-cases (ℕ-discrete (w / 32) (v / 32))
-      (λ (e : w / 32 ≡ v / 32).
-      rw (e, getD-set-same words (v / 32) (getD words (v / 32) 0 + 2 ^ (v % 32)) 0 h)
-      (word-bit-other (getD words (v / 32) 0) (v % 32) clear (w % 32) (λ q. d (number-split w v e q))))
-      (λ (n : w / 32 ≡ v / 32 → ⊥). rw (getD-set-other words (v / 32) (w / 32) (getD words (v / 32) 0 + 2 ^ (v % 32)) 0 n))
+      by-cases (ℕ-discrete (w % setWords) (v % setWords))
+      (λ (e : w % setWords ≡ v % setWords).
+      rw (e, getD-set-same words (v % setWords) (getD words (v % setWords) 0 + 2 ^ (v / setWords)) 0 h)
+      (word-bit-other (getD words (v % setWords) 0) (v / setWords) clear (w / setWords) (λ q. d (number-split w v e q))))
+      (λ (n : w % setWords ≡ v % setWords → ⊥). rw (getD-set-other words (v % setWords) (w % setWords) (getD words (v % setWords) 0 + 2 ^ (v / setWords)) 0 n))
 
 -- words that are 0 hold no vertex
 pub bit-none : (n v : ℕ) → bitAt (replicate n 0) v ≡ 0
 unfolding bitAt
-bit-none n v = rw (zero-entry n (v / 32), zero-div (2 ^ (v % 32)))
+bit-none n v = rw (zero-entry n (v % setWords), zero-div (2 ^ (v / setWords)))
   where
     zero-entry : (n i : ℕ) → _≡_ {A = ℕ} (getD (replicate n 0) i 0) 0
     zero-entry zero i = refl

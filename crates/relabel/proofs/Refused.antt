@@ -11,7 +11,7 @@ use Rattle.refusal.specs.Limits.{maxVertices}
 use Rattle.refusal.specs.Refusal.{given, first, badCount, wrongLength, odd, firstFault}
 use Rattle.refusal.proofs.First.{pass, stop, first-none, first-last, given-none, right-length, wrong-length, length-right, even-list, odd-list, list-even, good-count}
 use Rattle.relabel.specs.Relabel.{badOrder, relabelRefusal}
-use Rattle.relabel.specs.LookUp.{Below}
+use Rattle.game.specs.Table.{Below}
 use Rattle.relabel.proofs.Faultless.{faultless-below}
 
 -- the answer at each test, by what was found before it
@@ -55,24 +55,27 @@ module _ (order xs : List ℕ) (out inverse : ℕ) where
 -- what an accepted call knows
 pub record Acceptable (order xs : List ℕ) (out inverse : ℕ) : Type 0 where
   pub count : length order ≤ maxVertices
+  pub even : length xs % 2 ≡ 0
   pub same : out ≡ length xs
   pub whole : inverse ≡ length order
   pub good : badOrder order ≡ false
   pub vertices : Below (length order) xs
 
-pub accepted : (order xs : List ℕ) (out inverse : ℕ) {code : ℕ} → code ≡ relabelRefusal order xs out inverse → code ≡ 0 → Acceptable order xs out inverse
+pub relabel-known : (order xs : List ℕ) (out inverse : ℕ) {code : ℕ} → code ≡ relabelRefusal order xs out inverse → code ≡ 0 → Acceptable order xs out inverse
 unfolding relabelRefusal
-accepted order xs out inverse d e =
+relabel-known order xs out inverse d e =
     let count = first-none (given (badCount (length order)) 1) _ (sym d ∙ e) in
     let even = first-none (given (odd xs) 2) _ (count .1) in
+    let pairs = list-even xs (given-none (odd xs) 1 (even .0)) in
     let same = first-none (given (wrongLength out (length xs)) 2) _ (even .1) in
     let whole = first-none (given (wrongLength inverse (length order)) 2) _ (same .1) in
     let good = first-none (given (badOrder order) 3) _ (whole .1) in
     let faultless = first-none (firstFault (length order) (edges xs)) [] (good .1) in
     record {
       count = good-count (length order) (given-none (badCount (length order)) 0 (count .0)) .1;
+      even = pairs;
       same = length-right out (length xs) (given-none (wrongLength out (length xs)) 1 (same .0));
       whole = length-right inverse (length order) (given-none (wrongLength inverse (length order)) 1 (whole .0));
       good = given-none (badOrder order) 2 (good .0);
-      vertices = record { entry = faultless-below (length order) xs (list-even xs (given-none (odd xs) 1 (even .0))) (faultless .0) };
+      vertices = record { each = faultless-below (length order) xs pairs (faultless .0) };
     }

@@ -2,26 +2,29 @@
 -- Assumes nothing.
 use mathlib.Core.Path.{_≡_, refl, sym, ap, ap₂, _∙_}
 use mathlib.Core.Bool.{false}
-use mathlib.Core.List.{List, [], _∷_, map}
-use Prim.Native.Nat.{ℕ, suc, _<_}
+use mathlib.Core.List.{List, [], _∷_}
+use Prim.Native.Nat.{ℕ, suc, _%_, _<_}
 use native.Mathlib.Omega.{arith}
-use lib.ListN.{length, getD, length-map}
+use lib.ListN.{length, getD}
 use Rattle.game.specs.Edge.{_─_, edges}
-use Rattle.game.specs.Table.{tabulate}
+use Rattle.game.specs.Table.{tabulate, Below}
 use Rattle.game.proofs.Tables.{tabulate-length, tabulate-entry}
 use Rattle.refusal.specs.Refusal.{firstFault}
+use Rattle.refusal.specs.Verdict.{accepted, refused}
 use Rattle.refusal.specs.Outcome.{ended}
 use Rattle.refusal.proofs.Fault.{faultless, fault-none, first-fault-on}
 use Rattle.refusal.proofs.Ends.{ends-refused, ends-accepted}
 use Rattle.relabel.specs.Relabel.{badOrder, rankOf, inverseOf, relabelled, tables, relabelRefusal, relabelOutcome}
-use Rattle.relabel.specs.LookUp.{Below, lookedUp}
+use Rattle.relabel.specs.LookUp.{lookedUp}
 use Rattle.relabel.proofs.Rank.{rank-below, rank-injective}
 use Rattle.relabel.proofs.Faultless.{faultless-cons}
-use Rattle.relabel.proofs.Refused.{accepted}
+use Rattle.relabel.proofs.Refused.{relabel-known}
 
 pub relabelled-length : (order xs : List ℕ) → length (relabelled order xs) ≡ length xs
 unfolding relabelled
-relabelled-length order xs = length-map xs (rankOf order)
+relabelled-length order [] = refl
+relabelled-length order (a ∷ []) = refl
+relabelled-length order (a ∷ b ∷ xs) = ap (λ (k : ℕ). suc (suc k)) (relabelled-length order xs)
 
 -- by an order without a bad entry, a list without a fault becomes a list without a fault
 pub relabelled-faultless : (order : List ℕ) → badOrder order ≡ false → (xs : List ℕ) → firstFault (length order) (edges xs) ≡ 0 → firstFault (length order) (edges (relabelled order xs)) ≡ 0
@@ -31,21 +34,22 @@ relabelled-faultless order good (a ∷ []) f = refl
 relabelled-faultless order good (a ∷ b ∷ xs) f =
     let p = faultless-cons (length order) (a ─ b) (edges xs) f in
     let q = faultless (length order) a b (p .0) in
-    first-fault-on (length order) (rankOf order a ─ rankOf order b) (edges (map (rankOf order) xs))
+    first-fault-on (length order) (rankOf order a ─ rankOf order b) (edges (relabelled order xs))
     (fault-none (length order) (rankOf order a) (rankOf order b) (rank-below order good a (q .0)) (rank-below order good b (q .1)) (λ e. q .2 (rank-injective order good a b (q .0) (q .1) e)))
     ∙ relabelled-faultless order good xs (p .1)
 
--- rules that agree on a list's entries make one list of it
-map-agree : (f g : ℕ → ℕ) (xs : List ℕ) → ((i : ℕ) → i < length xs → f (getD xs i 0) ≡ g (getD xs i 0)) → map f xs ≡ map g xs
-map-agree f g [] h = refl
-map-agree f g (x ∷ xs) h = ap₂ (λ (y : ℕ) (ys : List ℕ). y ∷ ys) (h 0 (omega arith)) (map-agree f g xs (λ i l. h (suc i) (omega arith)))
-
--- looked up in the inverse of an order, vertices become ranks
-inverse-relabels : (order xs : List ℕ) → Below (length order) xs → lookedUp (inverseOf order) xs ≡ relabelled order xs
+-- looked up in the inverse of an order, the ends of whole edges become ranks
+inverse-relabels : (order xs : List ℕ) → length xs % 2 ≡ 0 → Below (length order) xs → lookedUp (inverseOf order) xs ≡ relabelled order xs
 unfolding lookedUp inverseOf relabelled
-inverse-relabels order xs b =
-    map-agree (λ (v : ℕ). getD (tabulate (length order) (rankOf order)) v 0) (rankOf order) xs
-    (λ i l. tabulate-entry (length order) (rankOf order) (getD xs i 0) 0 (b .entry i l))
+inverse-relabels order [] even below = refl
+inverse-relabels order (a ∷ []) even below = absurd (omega arith)
+inverse-relabels order (a ∷ b ∷ xs) even below =
+    ap₂ _∷_ (rank a (below .each 0 (omega arith)))
+    (ap₂ _∷_ (rank b (below .each 1 (omega arith)))
+    (inverse-relabels order xs (omega arith) (record { each = λ i l. below .each (suc (suc i)) (omega arith) })))
+  where
+    rank : (v : ℕ) → v < length order → getD (tabulate (length order) (rankOf order)) v 0 ≡ rankOf order v
+    rank v h = tabulate-entry (length order) (rankOf order) v 0 h
 
 -- the inverse of an order has an entry for every vertex
 pub inverse-room : (order : List ℕ) {inverse xs : List ℕ} → inverse ≡ inverseOf order → Below (length order) xs → Below (length inverse) xs
@@ -54,12 +58,13 @@ inverse-room order e b = rw (ap length e ∙ tabulate-length (length order) (ran
 
 -- the two ways in which a call ends
 module _ (order xs out inverse : List ℕ) {code : ℕ} (decides : code ≡ relabelRefusal order xs (length out) (length inverse)) where
-  pub relabel-refused : (code ≡ 0 → ⊥) → ended code (tables out inverse) ≡ relabelOutcome order xs (tables out inverse)
+  pub relabel-refused : (code ≡ 0 → ⊥) → ended (refused code) (tables out inverse) ≡ relabelOutcome order xs (tables out inverse)
   unfolding relabelOutcome
-  relabel-refused d = ends-refused _ _ _ decides (λ e. d (decides ∙ e)) refl
+  relabel-refused d = ends-refused _ _ _ _ decides (λ e. d (decides ∙ e)) refl
 
-  pub relabel-accepted : {out′ inverse′ : List ℕ} → code ≡ 0 → inverse′ ≡ inverseOf order → out′ ≡ lookedUp inverse′ xs → ended 0 (tables out′ inverse′) ≡ relabelOutcome order xs (tables out inverse)
+  pub relabel-accepted : {out′ inverse′ : List ℕ} → code ≡ 0 → inverse′ ≡ inverseOf order → out′ ≡ lookedUp inverse′ xs → ended (accepted tt) (tables out′ inverse′) ≡ relabelOutcome order xs (tables out inverse)
   unfolding relabelOutcome
   relabel-accepted e i o =
-      ends-accepted _ _ _ (sym e ∙ decides) (sym decides ∙ e)
-      (ap₂ tables (o ∙ ap (λ (t : List ℕ). lookedUp t xs) i ∙ inverse-relabels order xs (accepted order xs (length out) (length inverse) decides e .vertices)) i)
+      let known = relabel-known order xs (length out) (length inverse) decides e in
+      ends-accepted _ _ _ _ refl (sym decides ∙ e)
+      (ap₂ tables (o ∙ ap (λ (t : List ℕ). lookedUp t xs) i ∙ inverse-relabels order xs (known .even) (known .vertices)) i)

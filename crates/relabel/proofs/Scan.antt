@@ -4,7 +4,7 @@ use mathlib.Core.Path.{_≡_, refl, sym, ap, _∙_}
 use mathlib.Core.Logic.{by-cases}
 use mathlib.Core.Bool.{Bool, true, false}
 use mathlib.Core.List.{List, [], _∷_}
-use Prim.Native.Nat.{ℕ, suc, _-_, _/_, _≤_, _<_}
+use Prim.Native.Nat.{ℕ, suc, _-_, _%_, _≤_, _<_}
 use native.Mathlib.Decide.{ℕ-discrete}
 use native.Mathlib.Omega.{arith}
 use lib.Dec.{eqb}
@@ -40,7 +40,7 @@ module _ {words vs : List ℕ} (h : Holds words vs) (v : ℕ) where
   unfolding one-if
   holds-clear e = h .bit v ∙ ap one-if e
 
-  holds-more : v / 32 < length words → member v vs ≡ false → Holds (setBit words v) (v ∷ vs)
+  holds-more : v % setWords < length words → member v vs ≡ false → Holds (setBit words v) (v ∷ vs)
   unfolding one-if member
   holds-more l e = record { bit = bits }
     where
@@ -81,8 +81,8 @@ module _ {order words : List ℕ} {i v : ℕ} (r : Read order words i) (left : 0
       (rw drop-before (bad-again (length order) v (drop i order) (sym (holds-member (r .holds) v) ∙ t)))
 
   -- the set has a bit for v
-  pub read-room : length order ≤ maxVertices → v < length order → v / 32 < length words
-  read-room l h = omega (arith, r .size)
+  pub read-room : length order ≤ maxVertices → v < length order → (length words ≡ setWords) × (v < maxVertices)
+  read-room l h = (r .size, omega arith)
 
   read-new : eqb (bitAt words v) 1 ≡ false → member v (drop i order) ≡ false
   read-new t = sym (holds-member (r .holds) v) ∙ t
@@ -97,7 +97,7 @@ module _ {order words : List ℕ} {i v : ℕ} (r : Read order words i) (left : 0
         within = omega (arith, r .within);
         size = ap length e ∙ simp length-set (r .size);
         good = rw drop-before (good-cons (length order) v (drop i order) h (read-new t) (r .good));
-        holds = rw (e, drop-before) (holds-more (r .holds) v (read-room l h) (read-new t));
+        holds = rw (e, drop-before) (holds-more (r .holds) v (omega (arith, r .size)) (read-new t));
       }
 
 pub read-all : {order words : List ℕ} {i : ℕ} → Read order words i → i ≤ 0 → badOrder order ≡ false

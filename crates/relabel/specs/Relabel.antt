@@ -7,14 +7,14 @@
 -- There is no 20: document 01 bounds the edges that are added or reported, not those that are relabelled.
 -- Assumes nothing.
 use mathlib.Core.Bool.{Bool, false, _||_, cond}
-use mathlib.Core.List.{List, [], _∷_, map}
+use mathlib.Core.List.{List, [], _∷_}
 use Prim.Native.Nat.{ℕ, suc}
 use lib.Dec.{eqb, leb}
 use lib.ListN.{length}
 use Rattle.game.specs.Table.{tabulate, member}
 use Rattle.game.specs.Edge.{edges}
 use Rattle.refusal.specs.Refusal.{given, first, badCount, wrongLength, odd, firstFault}
-use Rattle.refusal.specs.Outcome.{Outcome, decided}
+use Rattle.refusal.specs.Outcome.{Done, done}
 
 -- some entry is n or more, or stands again after itself
 unfoldable pub badEntry : ℕ → List ℕ → Bool
@@ -37,10 +37,12 @@ unfoldable pub inverseOf : List ℕ → List ℕ
 unfolding tabulate rankOf
 inverseOf order = tabulate (length order) (rankOf order)
 
--- a flat edge list, with each vertex number replaced by its rank
+-- a flat edge list, with the two ends of each edge replaced by their ranks; a last number that stands alone is no edge and stays
 unfoldable pub relabelled : List ℕ → List ℕ → List ℕ
 unfolding rankOf
-relabelled order xs = map (rankOf order) xs
+relabelled order [] = []
+relabelled order (a ∷ []) = a ∷ []
+relabelled order (a ∷ b ∷ xs) = rankOf order a ∷ rankOf order b ∷ relabelled order xs
 
 -- the tables that the call is lent to write: the list in ranks, and the order's inverse
 pub record Tables : Type 0 where
@@ -63,9 +65,9 @@ relabelRefusal order xs outLength inverseLength =
     ∷ [])
 
 -- what the call leaves, of an order, a flat edge list and the tables as they were
-unfoldable pub relabelOutcome : List ℕ → List ℕ → Tables → Outcome Tables
+unfoldable pub relabelOutcome : List ℕ → List ℕ → Tables → Done Tables
 relabelOutcome order xs was =
-    decided
+    done
     (relabelRefusal order xs (length (was .out)) (length (was .inverse)))
     was
     (tables (relabelled order xs) (inverseOf order))

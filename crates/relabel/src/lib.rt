@@ -1,44 +1,40 @@
 // Relabelling: an edge list in vertex numbers becomes one in ranks, by an order.
 ghost use mathlib.Core.Path.{_≡_};
 ghost use mathlib.Core.Bool.{false};
-ghost use Prim.Native.Nat.{_/_, _<_, _≤_};
+ghost use Prim.Native.Nat.{_<_, _≤_};
 ghost use lib.Dec.{eqb};
 ghost use lib.ListN.{length};
-ghost use Rattle.refusal.specs.Answer.{number};
+ghost use Rattle.refusal.specs.Answer.{verdict};
 ghost use Rattle.refusal.specs.Limits.{maxVertices};
 ghost use Rattle.refusal.specs.Outcome.{ended};
 ghost use Rattle.relabel.specs.Relabel.{badOrder, inverseOf, tables, relabelRefusal, relabelOutcome};
-ghost use Rattle.relabel.specs.LookUp.{Below, lookedUp};
-ghost use Rattle.relabel.specs.VertexSet.{bitAt, setBit};
+ghost use Rattle.relabel.specs.LookUp.{lookedUp};
+ghost use Rattle.game.specs.Table.{Below};
+ghost use Rattle.relabel.specs.VertexSet.{setWords, bitAt, setBit};
 use refusal::Answer;
 use refusal::MAX_VERTICES;
 use refusal::bad_count;
 use refusal::list_fault;
+use table::wide;
 
 // A set of vertices has a bit for each number, 32 to a word.
-const WORDS: usize = MAX_VERTICES / 32;
-
-fn wide(x: u32) -> usize
-    ensures { λ r. ⌜ r ≡ x ⌝ }
-{
-    x as usize
-}
+const WORDS: usize = 32_768;
 
 // Whether a vertex is in a set.
 fn contains(set: &[u32], v: usize) -> bool
-    requires { ⌜ v / 32 < length (now set) ⌝ }
+    requires { ⌜ (length (now set) ≡ setWords) × (v < maxVertices) ⌝ }
     ensures { λ r. ⌜ r ≡ eqb (bitAt (now (set .entry)) v) 1 ⌝ }
 {
-    (set[v / 32] >> (v % 32)) % 2 == 1
+    (set[v % WORDS] >> (v / WORDS)) % 2 == 1
 }
 
 // Puts a vertex into a set. It is not there yet, so its bit is set by a sum.
 fn insert(set: &mut [u32], v: usize)
-    requires { ⌜ (v / 32 < length (now set)) × (bitAt (now set) v ≡ 0) ⌝ }
+    requires { ⌜ (length (now set) ≡ setWords) × (v < maxVertices) × (bitAt (now set) v ≡ 0) ⌝ }
     ensures { λ _. ⌜ now (set .exit) ≡ setBit (now (set .entry)) v ⌝ }
 {
-    let w = v / 32;
-    set[w] += 1 << (v % 32);
+    let w = v % WORDS;
+    set[w] += 1 << (v / WORDS);
 }
 
 // Refusal 3: an entry of the order is no vertex, or stands twice. Nothing lent may be written before this is known, so the entries
@@ -114,7 +110,7 @@ fn look_up(table: &[u32], numbers: &[u32], out: &mut [u32])
 // Translates an edge list from vertex numbers to ranks, by an order, into `out`. The work table `inverse`, as long as the order, ends
 // holding the rank of each vertex by its number. A refused call leaves both as they came.
 pub fn relabel(order: &[u32], edges: &[u32], out: &mut [u32], inverse: &mut [u32]) -> Answer
-    ensures { λ r. ⌜ ended (number r) (tables (now (out .exit)) (now (inverse .exit))) ≡ relabelOutcome (now (order .entry)) (now (edges .entry)) (tables (now (out .entry)) (now (inverse .entry))) ⌝ }
+    ensures { λ r. ⌜ ended (verdict r) (tables (now (out .exit)) (now (inverse .exit))) ≡ relabelOutcome (now (order .entry)) (now (edges .entry)) (tables (now (out .entry)) (now (inverse .entry))) ⌝ }
 {
     let code = relabel_refusal(order, edges, out.len(), inverse.len());
     if code != 0 {

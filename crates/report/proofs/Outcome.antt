@@ -11,42 +11,37 @@ use Rattle.game.specs.Net.{Net, netOf, weights}
 use Rattle.refusal.specs.Refusal.{first}
 use Rattle.refusal.proofs.First.{first-pass, first-stop, first-last, unless-refused, unless-accepted, given-true}
 use Rattle.growth.specs.Work.{Work, workOf, cleared, zeros}
-use Rattle.partition.proofs.Refused.{accepted as divides-accepted}
-use Rattle.reach.specs.Given.{IsNetOf}
-use Rattle.cost.specs.Figures.{boundOf, volumeOf}
-use Rattle.report.specs.Compare.{sameNet, Comparison, comparison, compared}
-use Rattle.report.specs.Answer.{Reply, accepted, refused, replied}
-use Rattle.report.specs.Report.{Written, Lent, lent, reported, wrongLent, earlyRefusal, lateRefusal, reportRefusal, figures, reportOutcome}
-use Rattle.report.specs.Work.{Reportable, Answered}
-use Rattle.report.proofs.Sameness.{same-net}
+use Rattle.partition.proofs.Refused.{divide-known}
+use Rattle.reach.specs.Given.{lowerCount, lowerCounts, Given}
+use Rattle.game.proofs.Weights.{weight-count}
+use Rattle.game.proofs.Tables.{tabulate-ext}
+use Rattle.cost.specs.declared.Totals.{Totals}
+use Rattle.cost.specs.Figures.{totalsOf}
+use Rattle.compare.specs.Compare.{sameNet, Comparison, comparison, compared, unlike}
+use Rattle.refusal.specs.Verdict.{Verdict, accepted, refused, judged}
+use Rattle.refusal.specs.Outcome.{ended}
+use Rattle.refusal.proofs.Ends.{judged-accepted, judged-refused}
+use Rattle.report.specs.Report.{Written, Lent, lent, wrongLent, earlyRefusal, reportRefusal, figures, reportOutcome}
+use Rattle.report.specs.Steps.{Reportable, Answered}
+use Rattle.compare.proofs.Sameness.{same-net}
 use Rattle.report.proofs.Own.{same-passes}
 use Rattle.report.proofs.Refused.{ready}
-
-replied-stop : (k b v : ℕ) → (k ≡ 0 → ⊥) → replied k b v ≡ refused k
-unfolding replied
-replied-stop zero b v h = absurd (h refl)
-replied-stop (suc k) b v h = refl
-
-replied-done : (k b v : ℕ) → k ≡ 0 → replied k b v ≡ accepted b v
-unfolding replied
-replied-done zero b v e = refl
-replied-done (suc k) b v e = absurd (omega arith)
 
 module _ (of : Net) (B k : ℕ) (xs : List ℕ) (was : Lent) where
   early : ℕ
   early = earlyRefusal of B k xs (wrongLent of k xs was)
 
   late : ℕ
-  late = lateRefusal of (edges xs)
+  late = unlike of (edges xs)
 
   grown : Net
   grown = netOf (length (of .parents)) (edges xs)
 
   -- refused before the comparison: the number, and every table as it was
   pub ends-early : {code : ℕ} {wrong : Bool} → code ≡ earlyRefusal of B k xs wrong → wrong ≡ wrongLent of k xs was → (code ≡ 0 → ⊥)
-      → reported (refused code) was ≡ reportOutcome of B k xs was
+      → ended (refused code) was ≡ reportOutcome of B k xs was
   unfolding reportOutcome reportRefusal early late
-  ends-early {code} e w h = ap₂ reported (sym number) (sym (unless-refused early was _ some))
+  ends-early {code} e w h = ap₂ ended (sym number) (sym (unless-refused early was _ some))
     where
       is : code ≡ early
       is = e ∙ ap (earlyRefusal of B k xs) w
@@ -54,10 +49,10 @@ module _ (of : Net) (B k : ℕ) (xs : List ℕ) (was : Lent) where
       some : early ≡ 0 → ⊥
       some z = h (is ∙ z)
 
-      number : replied (first (early ∷ late ∷ [])) (boundOf of (edges xs) B k) (volumeOf of (edges xs) B k) ≡ refused code
+      number : judged (first (early ∷ late ∷ [])) (totalsOf of (edges xs) B k) ≡ refused code
       number =
-          ap (λ (m : ℕ). replied m (boundOf of (edges xs) B k) (volumeOf of (edges xs) B k)) (first-stop early (late ∷ []) some)
-          ∙ replied-stop early _ _ some ∙ ap refused (sym is)
+          ap (λ (m : ℕ). judged m (totalsOf of (edges xs) B k)) (first-stop early (late ∷ []) some)
+          ∙ judged-refused early _ some ∙ ap refused (sym is)
 
   module _ (z : earlyRefusal of B k xs (wrongLent of k xs was) ≡ 0) where
     passed : first (early ∷ late ∷ []) ≡ late
@@ -66,10 +61,10 @@ module _ (of : Net) (B k : ℕ) (xs : List ℕ) (was : Lent) where
 
     -- refused by the comparison: 23, the comparison tables hold the edges' net, and all but the work tables is as it was
     pub ends-late : {same : Bool} {new : Net} {work : Work} → comparison same new work ≡ compared of (edges xs) (was .work) → same ≡ false
-        → reported (refused 23) (lent (was .written) new work) ≡ reportOutcome of B k xs was
-    unfolding reportOutcome reportRefusal early late lateRefusal compared grown
+        → ended (refused 23) (lent (was .written) new work) ≡ reportOutcome of B k xs was
+    unfolding reportOutcome reportRefusal early late unlike compared grown
     ends-late c differs =
-        ap₂ reported (sym number)
+        ap₂ ended (sym number)
         ((λ i. lent (sym (unless-refused late (was .written) (figures of B k (edges xs)) some) i) (ap (λ (c : Comparison). c .net) c i) (ap (λ (c : Comparison). c .work) c i))
         ∙ sym (unless-accepted early was _ z))
       where
@@ -79,9 +74,9 @@ module _ (of : Net) (B k : ℕ) (xs : List ℕ) (was : Lent) where
         some : late ≡ 0 → ⊥
         some e = omega (arith, is)
 
-        number : replied (first (early ∷ late ∷ [])) (boundOf of (edges xs) B k) (volumeOf of (edges xs) B k) ≡ refused 23
+        number : judged (first (early ∷ late ∷ [])) (totalsOf of (edges xs) B k) ≡ refused 23
         number =
-            ap (λ (m : ℕ). replied m (boundOf of (edges xs) B k) (volumeOf of (edges xs) B k)) (passed ∙ is) ∙ replied-stop 23 _ _ (λ e. omega arith)
+            ap (λ (m : ℕ). judged m (totalsOf of (edges xs) B k)) (passed ∙ is) ∙ judged-refused 23 _ (λ e. omega arith)
 
     -- where the comparison finds the net, it is the net of its edges
     module _ {same : Bool} {new : Net} {work : Work} (c : comparison same new work ≡ compared of (edges xs) (was .work)) (found : same ≡ true) where
@@ -89,7 +84,16 @@ module _ (of : Net) (B k : ℕ) (xs : List ℕ) (was : Lent) where
       unfolding compared
       own = same-net of (netOf (length (of .parents)) (edges xs)) (sym (ap (λ (c : Comparison). c .same) c) ∙ found)
 
-      own-list : IsNetOf (of .parents) (of .weights) xs
+      weighed : of .weights ≡ weights (length (of .parents)) (edges xs)
+      unfolding netOf
+      weighed = ap (λ (of : Net). of .weights) own
+
+      -- each edge is charged 1, so the weights are the counts of lower ends
+      counted : weights (length (of .parents)) (edges xs) ≡ lowerCounts (length (of .parents)) (edges xs)
+      unfolding weights lowerCounts lowerCount
+      counted = tabulate-ext (length (of .parents)) _ _ (λ x h. weight-count (edges xs) x)
+
+      own-list : Given (of .parents) (of .weights) xs
       unfolding netOf
       own-list =
           let r = ready of B k xs was z in
@@ -98,15 +102,16 @@ module _ (of : Net) (B k : ℕ) (xs : List ℕ) (was : Lent) where
             few = r .few;
             faultless = r .faultless;
             parents = ap (λ (of : Net). of .parents) own;
-            weights = ap (λ (of : Net). of .weights) own;
+            counts = weighed ∙ counted;
           }
 
       reportable : Reportable (of .parents) (of .weights) B xs (was .written)
       reportable =
           let r = ready of B k xs was z in
-          let d = divides-accepted (of .parents) (of .weights) B k (was .written .division) (r .divides) in
+          let d = divide-known (of .parents) (of .weights) B k (was .written .division) (r .divides) in
           record {
             own = own-list;
+            weighed = weighed;
             divisible = d .net;
             division = d .tables;
             edge-blocks = r .lengths .edge-blocks;
@@ -128,12 +133,12 @@ module _ (of : Net) (B k : ℕ) (xs : List ℕ) (was : Lent) where
       write-ready = (reportable, work-lengths)
 
       -- accepted: the figures, all tables, and the work tables cleared again
-      pub ends-accepted : {loads : ℕ} {r : Reply} {new-written : Written} {ends lower : List ℕ} → loads ≡ length (was .written .division .blockLoads)
+      pub ends-accepted : {loads : ℕ} {r : Verdict Totals} {new-written : Written} {ends lower : List ℕ} → loads ≡ length (was .written .division .blockLoads)
           → Answered of B loads (edges xs) (work .ends) (work .lower) r new-written ends lower
-          → reported r (lent new-written new (workOf ends (work .jump) lower)) ≡ reportOutcome of B k xs was
+          → ended r (lent new-written new (workOf ends (work .jump) lower)) ≡ reportOutcome of B k xs was
       unfolding reportOutcome reportRefusal early late compared cleared zeros
       ends-accepted {loads} {r} {new-written} {ends} {lower} l a =
-          ap₂ reported (a .answers ∙ (λ i. accepted (boundOf of (edges xs) B (blocks i)) (volumeOf of (edges xs) B (blocks i))) ∙ sym number)
+          ap₂ ended (a .answers ∙ (λ i. accepted (totalsOf of (edges xs) B (blocks i))) ∙ sym number)
           ((λ i. lent ((a .writes ∙ ap (λ (m : ℕ). figures of B m (edges xs)) blocks ∙ sym (unless-accepted late (was .written) (figures of B k (edges xs)) none)) i) (ap (λ (c : Comparison). c .net) c i) (workOf (clear-ends i) (ap (λ (c : Comparison). c .work .jump) c i) (clear-lower i)))
           ∙ sym (unless-accepted early was _ z))
         where
@@ -143,8 +148,8 @@ module _ (of : Net) (B k : ℕ) (xs : List ℕ) (was : Lent) where
           none : late ≡ 0
           none = same-passes of (edges xs) own
 
-          number : replied (first (early ∷ late ∷ [])) (boundOf of (edges xs) B k) (volumeOf of (edges xs) B k) ≡ accepted (boundOf of (edges xs) B k) (volumeOf of (edges xs) B k)
-          number = replied-done (first (early ∷ late ∷ [])) _ _ (passed ∙ none)
+          number : judged (first (early ∷ late ∷ [])) (totalsOf of (edges xs) B k) ≡ accepted (totalsOf of (edges xs) B k)
+          number = judged-accepted (first (early ∷ late ∷ [])) _ (passed ∙ none)
 
           clear-ends : ends ≡ replicate (length (was .work .ends)) 0
           clear-ends = a .clear-ends ∙ ap (λ (m : ℕ). replicate m 0) (ap (λ (c : Comparison). length (c .work .ends)) c ∙ length-replicate {A = ℕ} (length (was .work .ends)) 0)

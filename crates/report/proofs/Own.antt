@@ -1,92 +1,67 @@
 -- A report on a net's own edges: never refused with 23, and where it is accepted, it answers the bound and the volume.
 -- Assumes nothing.
 use mathlib.Core.Path.{_≡_, refl}
-use mathlib.Core.Bool.{Bool, true, false, _||_, cond}
+use mathlib.Core.Bool.{Bool}
 use mathlib.Core.List.{List, [], _∷_}
-use Prim.Native.Nat.{ℕ, zero, suc, _≤_}
+use Prim.Native.Nat.{ℕ, zero, suc}
 use native.Mathlib.Omega.{arith}
-use lib.Dec.{eqb, leb}
 use lib.ListN.{length}
-use Rattle.game.specs.Edge.{Edge, _─_, edges}
+use Rattle.game.specs.Edge.{Edge, edges}
 use Rattle.game.specs.Net.{Net, netOf}
-use Rattle.refusal.specs.Refusal.{given, first, fault, firstFault}
-use Rattle.cost.specs.Figures.{boundOf, volumeOf}
-use Rattle.report.specs.Answer.{accepted, refused, replied}
-use Rattle.report.specs.Report.{Lent, wrongLent, earlyRefusal, lateRefusal, reportRefusal, reportOutcome}
-use Rattle.report.proofs.Sameness.{net-same}
-
--- a number that is not 0 is not found first where it is not given
-first-not : (v k : ℕ) (ks : List ℕ) → (k ≡ suc v → ⊥) → (first ks ≡ suc v → ⊥) → first (k ∷ ks) ≡ suc v → ⊥
-unfolding first
-first-not v zero ks h r e = r e
-first-not v (suc k) ks h r e = h e
-
-given-not : (v : ℕ) (t : Bool) (k : ℕ) → (k ≡ suc v → ⊥) → given t k ≡ suc v → ⊥
-unfolding given
-given-not v true k h e = h e
-given-not v false k h e = omega arith
-
-first-none : (v : ℕ) → first [] ≡ suc v → ⊥
-unfolding first
-first-none v e = omega arith
-
--- the faults of edges have small numbers
-fault-small : (n : ℕ) (e : Edge) → fault n e ≤ 5
-unfolding fault
-fault-small n (a ─ b) = go (leb n a || leb n b) (eqb a b)
-  where
-    go : (s t : Bool) → cond s 4 (cond t 5 0) ≤ 5
-    go true t = omega arith
-    go false true = omega arith
-    go false false = omega arith
-
-first-fault-small : (n : ℕ) (es : List Edge) → firstFault n es ≤ 5
-unfolding firstFault first
-first-fault-small n [] = omega arith
-first-fault-small n (e ∷ es) = go (fault n e) (firstFault n es) (fault-small n e) (first-fault-small n es)
-  where
-    go : (k r : ℕ) → k ≤ 5 → r ≤ 5 → first (k ∷ r ∷ []) ≤ 5
-    go zero zero h l = omega arith
-    go zero (suc r) h l = l
-    go (suc k) r h l = h
+use Rattle.refusal.specs.Refusal.{given}
+use Rattle.refusal.proofs.Never.{first-not, end-not, other-not, false-not, judged-number, verdict-not}
+use Rattle.compare.proofs.Refused.{list-not}
+use Rattle.forest.specs.Promise.{Valid}
+use Rattle.forest.proofs.Promise.{valid-undamaged}
+use Rattle.refusal.specs.Verdict.{accepted, refused, judged}
+use Rattle.cost.specs.declared.Totals.{Totals}
+use Rattle.cost.specs.Figures.{totalsOf}
+use Rattle.compare.specs.Compare.{listRefusal, unlike}
+use Rattle.report.specs.Report.{Lent, wrongLent, earlyRefusal, reportRefusal, reportOutcome}
+use Rattle.compare.proofs.Sameness.{net-same}
 
 -- 23 is not given before anything is compared
 early-not-23 : (of : Net) (B k : ℕ) (xs : List ℕ) (wrong : Bool) → earlyRefusal of B k xs wrong ≡ 23 → ⊥
 unfolding earlyRefusal
 early-not-23 of B k xs wrong =
-    other _ 1 _ (omega arith) (other _ 2 _ (omega arith) (other _ 8 _ (omega arith) (other _ 30 _ (omega arith)
-    (first-not 22 (firstFault (length (of .parents)) (edges xs)) _ (λ e. omega (arith, e, first-fault-small (length (of .parents)) (edges xs)))
-    (other _ 20 _ (omega arith) (other _ 22 _ (omega arith) (first-none 22)))))))
-  where
-    other : (t : Bool) (k : ℕ) (ks : List ℕ) → (k ≡ 23 → ⊥) → (first ks ≡ 23 → ⊥) → first (given t k ∷ ks) ≡ 23 → ⊥
-    other t k ks h r = first-not 22 (given t k) ks (given-not 22 t k h) r
+    other-not 22 _ 1 _ (omega arith) (other-not 22 _ 2 _ (omega arith) (other-not 22 _ 8 _ (omega arith) (other-not 22 _ 30 _ (omega arith)
+    (first-not 22 (listRefusal (length (of .parents)) xs) _ (list-not 22 (length (of .parents)) xs (omega arith) (omega arith))
+    (other-not 22 _ 22 _ (omega arith) (end-not 22))))))
 
-replied-refused : (k b v m : ℕ) → replied k b v ≡ refused m → k ≡ m
-unfolding replied
-replied-refused zero b v m e = let z : _≡_ {A = ℕ} 0 1 = cc in absurd (omega arith)
-replied-refused (suc k) b v m e = cc
-
-replied-accepted : (k b v c w : ℕ) → replied k b v ≡ accepted c w → (c ≡ b) × (w ≡ v)
-unfolding replied
-replied-accepted zero b v c w e = (cc, cc)
-replied-accepted (suc k) b v c w e = let z : _≡_ {A = ℕ} 0 1 = cc in absurd (omega arith)
+judged-values : {X : Type 0} (k : ℕ) (values v : X) → judged k values ≡ accepted v → v ≡ values
+unfolding judged
+judged-values zero values v e = cc
+judged-values (suc k) values v e = let z : _≡_ {A = ℕ} 0 1 = cc in absurd (omega arith)
 
 -- 23 is not given where the edges' net is the net
-pub same-passes : (of : Net) (es : List Edge) → of ≡ netOf (length (of .parents)) es → lateRefusal of es ≡ 0
-unfolding lateRefusal given
+pub same-passes : (of : Net) (es : List Edge) → of ≡ netOf (length (of .parents)) es → unlike of es ≡ 0
+unfolding unlike given
 same-passes of es is = rw (net-same of (netOf (length (of .parents)) es) is) refl
 
 module _ (of : Net) (B k : ℕ) (xs : List ℕ) (was : Lent) where
   -- "Report lent that list is never refused with 23"
-  pub own-not-23 : of ≡ netOf (length (of .parents)) (edges xs) → reportOutcome of B k xs was .reply ≡ refused 23 → ⊥
+  pub own-not-23 : of ≡ netOf (length (of .parents)) (edges xs) → reportOutcome of B k xs was .verdict ≡ refused 23 → ⊥
   unfolding reportOutcome reportRefusal
   own-not-23 is e =
-      first-not 22 (earlyRefusal of B k xs (wrongLent of k xs was)) (lateRefusal of (edges xs) ∷ []) (early-not-23 of B k xs (wrongLent of k xs was))
-      (first-not 22 (lateRefusal of (edges xs)) [] (λ (d : lateRefusal of (edges xs) ≡ 23). omega (arith, d, same-passes of (edges xs) is)) (first-none 22))
-      (replied-refused (reportRefusal of B k xs was) (boundOf of (edges xs) B k) (volumeOf of (edges xs) B k) 23 e)
+      first-not 22 (earlyRefusal of B k xs (wrongLent of k xs was)) (unlike of (edges xs) ∷ []) (early-not-23 of B k xs (wrongLent of k xs was))
+      (first-not 22 (unlike of (edges xs)) [] (λ (d : unlike of (edges xs) ≡ 23). omega (arith, d, same-passes of (edges xs) is)) (end-not 22))
+      (judged-number (reportRefusal of B k xs was) (totalsOf of (edges xs) B k) 23 e)
 
   -- "and, where accepted, answers this volume and this bound"
-  pub accepted-figures : (b v : ℕ) → reportOutcome of B k xs was .reply ≡ accepted b v
-      → (b ≡ boundOf of (edges xs) B k) × (v ≡ volumeOf of (edges xs) B k)
+  pub accepted-totals : (totals : Totals) → reportOutcome of B k xs was .verdict ≡ accepted totals → totals ≡ totalsOf of (edges xs) B k
   unfolding reportOutcome
-  accepted-figures b v e = replied-accepted _ _ _ b v e
+  accepted-totals totals e = judged-values (reportRefusal of B k xs was) _ totals e
+
+-- a valid net is not refused with 30
+early-not-30 : (of : Net) (B k : ℕ) (xs : List ℕ) (wrong : Bool) → Valid of → earlyRefusal of B k xs wrong ≡ 30 → ⊥
+unfolding earlyRefusal
+early-not-30 of B k xs wrong v =
+    other-not 29 _ 1 _ (omega arith) (other-not 29 _ 2 _ (omega arith) (other-not 29 _ 8 _ (omega arith) (false-not 29 _ 30 _ (valid-undamaged v)
+    (first-not 29 (listRefusal (length (of .parents)) xs) _ (list-not 29 (length (of .parents)) xs (omega arith) (omega arith))
+    (other-not 29 _ 22 _ (omega arith) (end-not 29))))))
+
+pub report-not-30 : (of : Net) (B k : ℕ) (xs : List ℕ) (was : Lent) → Valid of → reportOutcome of B k xs was .verdict ≡ refused 30 → ⊥
+unfolding reportOutcome reportRefusal unlike
+report-not-30 of B k xs was v =
+    verdict-not _ _ 30
+    (first-not 29 (earlyRefusal of B k xs (wrongLent of k xs was)) _ (early-not-30 of B k xs (wrongLent of k xs was) v) (other-not 29 _ 23 _ (omega arith) (end-not 29)))

@@ -3,11 +3,10 @@
 use mathlib.Core.Path.{_≡_, refl, sym, ap, _∙_}
 use mathlib.Core.Bool.{Bool, true, false, not, _||_}
 use mathlib.Core.List.{List}
-use Prim.Native.Nat.{ℕ, _+_, _/_, _%_, _≤_, _<_}
+use Prim.Native.Nat.{ℕ, _+_, _/_, _%_, _≤_}
 use native.Mathlib.Omega.{arith}
-use lib.Dec.{eqb, ltb}
+use lib.Dec.{eqb}
 use lib.ListN.{length}
-use borrow.Author.Tests.{lt-ltb, le-ltb, ltb-false}
 use Rattle.game.specs.Edge.{edges}
 use Rattle.game.specs.Net.{Net, net}
 use Rattle.game.proofs.Edges.{edges-length}
@@ -19,15 +18,10 @@ use Rattle.growth.specs.Work.{workOf, badWork}
 use Rattle.growth.proofs.Rooms.{good-work}
 use Rattle.partition.specs.Divide.{tables, wrongTables, divideRefusal}
 use Rattle.partition.proofs.Refused.{Sized, tables-not, refused-not}
-use Rattle.report.specs.Compare.{Comparable}
+use Rattle.compare.specs.Compare.{wrongCompared}
+use Rattle.compare.specs.Steps.{Comparable}
+use Rattle.compare.proofs.Refused.{list-passed}
 use Rattle.report.specs.Report.{written, Lent, lent, wrongFigures, wrongLent, earlyRefusal}
-
--- 20, by half the length of the list
-pub many-edges : (xs : List ℕ) → maxEdges < length xs / 2 → ltb maxEdges (length (edges xs)) ≡ true
-many-edges xs h = lt-ltb maxEdges (length (edges xs)) (omega (arith, edges-length xs))
-
-pub few-edges : (xs : List ℕ) → length xs / 2 ≤ maxEdges → ltb maxEdges (length (edges xs)) ≡ false
-few-edges xs h = le-ltb maxEdges (length (edges xs)) (omega (arith, edges-length xs))
 
 -- the tables that are lent, one by one
 module _ (p w xs c t b l eb re bc cp cw e j lo : List ℕ) where
@@ -40,10 +34,10 @@ module _ (p w xs c t b l eb re bc cp cw e j lo : List ℕ) where
   -- 2, by the lengths that the code compares
   pub wrong-lengths : (k : ℕ) {blocks : ℕ} {d f o : Bool} → blocks ≡ k
       → d ≡ (wrongLength (length w) (length p) || wrongLength (length c) (length p) || wrongLength (length t) (length p) || wrongLength (length b) (length p) || wrongLength (length l) blocks)
-      → f ≡ (wrongLength (length eb) (length xs / 2) || wrongLength (length re) (length p) || wrongLength (length bc) (length p) || wrongLength (length cp) (length p) || wrongLength (length cw) (length p))
-      → o ≡ (wrongLength (length e) (length p) || wrongLength (length j) (length p) || wrongLength (length lo) (length p + length xs / 2))
+      → f ≡ (wrongLength (length eb) (length xs / 2) || wrongLength (length re) (length p) || wrongLength (length bc) (length p))
+      → o ≡ (wrongLength (length cp) (length p) || wrongLength (length cw) (length p) || (wrongLength (length e) (length p) || wrongLength (length j) (length p) || wrongLength (length lo) (length p + length xs / 2)))
       → (d || f || o || not (eqb (length xs % 2) 0)) ≡ wrongLent (net p w) k xs was
-  unfolding wrongLent wrongTables wrongFigures badWork odd
+  unfolding wrongLent wrongTables wrongFigures wrongCompared badWork odd
   wrong-lengths k q x y z = rw (x, y, z, q, ← edges-length xs) refl
 
 -- the lengths where none is wrong
@@ -61,24 +55,24 @@ pub record Lengths (of : Net) (k : ℕ) (xs : List ℕ) (was : Lent) : Type 0 wh
   pub even : length xs % 2 ≡ 0
 
 pub lengths-right : (of : Net) (k : ℕ) (xs : List ℕ) (was : Lent) → wrongLent of k xs was ≡ false → Lengths of k xs was
-unfolding wrongLent wrongFigures odd
+unfolding wrongLent wrongFigures wrongCompared odd
 lengths-right of k xs was e =
     let a = or-neither _ _ e in
     let b = or-neither _ _ (a .0) in
     let c = or-neither _ _ (b .0) in
-    let d4 = or-neither _ _ (c .1) in
-    let d3 = or-neither _ _ (d4 .0) in
-    let d2 = or-neither _ _ (d3 .0) in
-    let d1 = or-neither _ _ (d2 .0) in
-    let g = good-work (length (of .parents)) (length (of .parents) + length (edges xs)) (was .work) (b .1) in
+    let f2 = or-neither _ _ (c .1) in
+    let f1 = or-neither _ _ (f2 .0) in
+    let o2 = or-neither _ _ (b .1) in
+    let o1 = or-neither _ _ (o2 .0) in
+    let g = good-work (length (of .parents)) (length (of .parents) + length (edges xs)) (was .work) (o2 .1) in
     record {
       division = c .0;
       sized = tables-not of k (was .written .division) (c .0);
-      edge-blocks = length-right _ _ (d1 .0);
-      reaches = length-right _ _ (d1 .1);
-      counts = length-right _ _ (d2 .1);
-      compared-parents = length-right _ _ (d3 .1);
-      compared-weights = length-right _ _ (d4 .1);
+      edge-blocks = length-right _ _ (f1 .0);
+      reaches = length-right _ _ (f1 .1);
+      counts = length-right _ _ (f2 .1);
+      compared-parents = length-right _ _ (o1 .0);
+      compared-weights = length-right _ _ (o1 .1);
       ends = g .0;
       jump = g .1;
       lower = g .2;
@@ -101,17 +95,16 @@ ready of B k xs was z =
     let c = first-none _ _ (b .1) in
     let d = first-none _ _ (c .1) in
     let f = first-none _ _ (d .1) in
-    let g = first-none _ _ (f .1) in
-    let h = first-none _ _ (g .1) in
+    let h = first-none _ _ (f .1) in
+    let list = list-passed (length (of .parents)) xs (f .0) in
     let count : badCount (length (of .parents)) ≡ false = given-none _ 0 (a .0) in
     let n = good-count (length (of .parents)) count in
     let l : Lengths of k xs was = lengths-right of k xs was (given-none _ 1 (b .0)) in
-    let few : length (edges xs) ≤ maxEdges = ltb-false maxEdges (length (edges xs)) (given-none _ 19 (g .0)) in
     record {
       lengths = l;
       divides = refused-not of B k (was .written .division) count (l .division) (given-none _ 7 (c .0)) (given-none _ 29 (d .0)) (given-none _ 21 (h .0));
-      faultless = f .0;
-      few = few;
+      faultless = list .0;
+      few = list .1;
       compares = record {
         parents = sym (l .compared-parents);
         weights = l .sized .weights ∙ sym (l .compared-parents);
@@ -119,8 +112,8 @@ ready of B k xs was z =
           some = omega (arith, n .0, l .compared-parents);
           vertices = omega (arith, n .1, l .compared-parents);
           even = l .even;
-          few = few;
-          faultless = ap (λ (m : ℕ). firstFault m (edges xs)) (l .compared-parents) ∙ f .0;
+          few = list .1;
+          faultless = ap (λ (m : ℕ). firstFault m (edges xs)) (l .compared-parents) ∙ list .0;
           weights = l .compared-weights ∙ sym (l .compared-parents);
           ends = l .ends ∙ sym (l .compared-parents);
           jump = l .jump ∙ sym (l .compared-parents);

@@ -13,21 +13,22 @@ use lib.ListN.{length, getD}
 use Rattle.game.specs.Table.{tabulate, sum, member}
 use Rattle.game.specs.Edge.{Edge, edges}
 use Rattle.game.specs.Net.{Net, net, reach, weights}
-use Rattle.game.proofs.Proper.{Proper}
+use Rattle.game.specs.Graph.{Proper}
 use Rattle.game.proofs.Tables.{member-in, tabulate-length, tabulate-ext}
 use Rattle.refusal.specs.Refusal.{firstFault}
 use Rattle.refusal.proofs.Fault.{faultless-proper}
-use Rattle.partition.specs.Divide.{Tables, tables, divided, maxBlocks}
-use Rattle.partition.specs.Cut.{top}
-use Rattle.partition.specs.Work.{Fitting}
-use Rattle.partition.proofs.Sums.{only}
+use Rattle.partition.specs.Divide.{Tables, tables, divided}
+use Rattle.packing.specs.Pack.{maxBlocks}
+use Rattle.groups.specs.Cut.{top}
+use Rattle.partition.specs.Steps.{Fitting}
+use Rattle.groups.proofs.Sums.{only}
 use Rattle.reach.proofs.Counts.{bool-false}
-use Rattle.cost.specs.Figures.{different, edgeBlocks, blocksAt, blockCount, bound, boundOf, volumeOf}
-use Rattle.report.specs.Answer.{accepted}
+use Rattle.cost.specs.Figures.{different, edgeBlocks, blocksAt, blockCount, bound, boundOf, volumeOf, totals, totalsOf}
+use Rattle.refusal.specs.Verdict.{accepted}
 use Rattle.report.specs.Report.{written, figures}
-use Rattle.cost.specs.Work.{boundBy, volumeBy, Countable, CountedBlocks}
-use Rattle.report.specs.Work.{Reportable, Spread, Answered}
-use Rattle.cost.proofs.Totals.{table-total, sum-next}
+use Rattle.cost.specs.Steps.{boundBy, volumeBy, Countable, CountedBlocks}
+use Rattle.report.specs.Steps.{Reportable, Spread, Answered}
+use Rattle.cost.proofs.Sums.{table-total, sum-next}
 use Rattle.cost.proofs.Blocks.{block-at}
 use Rattle.cost.proofs.Divided.{cuts, packed, divided-top, divided-block, block-below}
 use Rattle.cost.proofs.Stamps.{different-total}
@@ -118,7 +119,7 @@ module _ {p w xs c t b l eb re bc : List ℕ} {B : ℕ} (q : Reportable p w B xs
     block-countable f g h = record {
       few = omega (arith, block-long, q .own .vertices);
       faultless = block-faultless;
-      weighed = q .own .weights ∙ ap (λ (n : ℕ). weights n (edges xs)) (sym block-long);
+      weighed = q .weighed ∙ ap (λ (n : ℕ). weights n (edges xs)) (sym block-long);
       blocks = below-most;
       table = f ∙ q .counts ∙ sym block-long;
       ends-fit = g ∙ sym block-long;
@@ -129,10 +130,10 @@ module _ {p w xs c t b l eb re bc : List ℕ} {B : ℕ} (q : Reportable p w B xs
     -- all that was written, and the answer
     pub all-answered : {eb″ bc″ e″ lo″ : List ℕ} {bo vo : ℕ} → eb″ ≡ edgeBlocks b′ (edges xs) → CountedBlocks xs b′ e lo bc″ e″ lo″
         → bo ≡ boundBy p t′ re′ → vo ≡ volumeBy bc″
-        → Answered (net p w) B (length l) (edges xs) e lo (accepted bo vo) (written (tables c′ t′ b′ l′) eb″ re′ bc″) e″ lo″
-    unfolding figures boundOf volumeOf of k
+        → Answered (net p w) B (length l) (edges xs) e lo (accepted (totals bo vo)) (written (tables c′ t′ b′ l′) eb″ re′ bc″) e″ lo″
+    unfolding figures totalsOf boundOf volumeOf of k
     all-answered {eb″} {bc″} f g u v = record {
-      answers = ap₂ accepted
+      answers = ap₂ (λ (b v : ℕ). accepted (totals b v))
           (u ∙ bound-by p (edges xs) t′ (s .reached) ∙ ap (bound p (edges xs)) top-is)
           (v ∙ volume-by (length p) (length l) (divided of B k .block) (edges xs) counted);
       writes = λ i. written (s .divided-so i) ((f ∙ ap (λ (t : List ℕ). edgeBlocks t (edges xs)) block-is) i) (s .reached i) (counted i);

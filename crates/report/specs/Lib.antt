@@ -1,6 +1,5 @@
 -- The call that reports on a division.
-pub mod Compare
 pub mod Answer
 pub mod Report
-pub mod Work
+pub mod Steps
 pub mod Paper

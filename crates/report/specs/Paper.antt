@@ -5,7 +5,7 @@ use mathlib.Core.Path.{_≡_, refl}
 use mathlib.Core.List.{List, [], _∷_}
 use Prim.Native.Nat.{ℕ}
 use lib.ListN.{replicate}
-use Rattle.game.specs.Table.{tabulate, sum, count, member}
+use Rattle.game.specs.Table.{tabulate, sum, count, member, filtered}
 use Rattle.game.specs.Edge.{lower, edges}
 use Rattle.game.specs.Game.{absent}
 use Rattle.game.specs.Tree.{sound}
@@ -14,10 +14,12 @@ use Rattle.refusal.specs.Refusal.{given, first, unless, badCount, wrongLength, 
 use Rattle.net.specs.Damage.{damagedBy, damaged}
 use Rattle.growth.specs.Work.{workOf, badWork, zeros, cleared}
 use Rattle.partition.specs.Divide.{tables, badLimits, tooHeavy, divided, wrongTables}
-use Rattle.cost.specs.Figures.{filtered, edgeBlock, edgeBlocks, touches, blocksAt, different, blockCount, isCut, bound, volume, boundOf, volumeOf}
-use Rattle.report.specs.Compare.{sameTable, sameNet}
-use Rattle.report.specs.Answer.{accepted, refused, replied}
-use Rattle.report.specs.Report.{Written, written, Lent, lent, ReportOutcome, reported, wrongFigures, wrongLent, earlyRefusal, lateRefusal, reportRefusal, figures, reportOutcome}
+use Rattle.cost.specs.Figures.{edgeBlock, edgeBlocks, touches, blocksAt, different, blockCount, isCut, bound, volume, boundOf, volumeOf, totals, totalsOf}
+use Rattle.compare.specs.Compare.{wrongCompared, listRefusal, sameTable, sameNet, unlike}
+use Rattle.refusal.specs.Verdict.{accepted, refused, judged}
+use Rattle.refusal.specs.Outcome.{Outcome, ended}
+use Rattle.cost.specs.declared.Totals.{Totals}
+use Rattle.report.specs.Report.{Written, written, Lent, lent, wrongFigures, wrongLent, earlyRefusal, reportRefusal, figures, reportOutcome}
 
 -- the net of the whole case and its edges, by rank
 whole : Net
@@ -41,7 +43,7 @@ given-all : ℕ → Lent
 given-all k = lent (given-tables k) (net (sevens 6) (sevens 6)) (workOf (sevens 6) (sevens 6) (sevens 12))
 
 -- B = 4 and k = 2; B = 3; k = 1; B = 2; the other list; a table of blocks that is too short
-pub computed : List ReportOutcome
+pub computed : List (Outcome Totals Lent)
 computed =
     reportOutcome whole 4 2 own (given-all 2)
     ∷ reportOutcome whole 3 2 own (given-all 2)
@@ -52,37 +54,37 @@ computed =
     ∷ []
 
 -- the work tables, cleared, and the reaches, which no cutting changes
-ended : Written → Net → Lent
-ended w n = lent w n (workOf (replicate 6 0) (replicate 6 0) (replicate 12 0))
+cleared-with : Written → Net → Lent
+cleared-with w n = lent w n (workOf (replicate 6 0) (replicate 6 0) (replicate 12 0))
 
 reaches : List ℕ
 reaches = 2 ∷ 2 ∷ 2 ∷ 1 ∷ 1 ∷ 0 ∷ []
 
-pub printed : List ReportOutcome
+pub printed : List (Outcome Totals Lent)
 printed =
-    reported (accepted 2 1)
-    (ended
+    ended (accepted (totals 2 1))
+    (cleared-with
     (written
     (tables (3 ∷ 2 ∷ 4 ∷ 2 ∷ 2 ∷ 2 ∷ []) (2 ∷ 5 ∷ 2 ∷ 5 ∷ 5 ∷ 5 ∷ []) (0 ∷ 1 ∷ 0 ∷ 1 ∷ 1 ∷ 1 ∷ []) (4 ∷ 2 ∷ []))
     (0 ∷ 0 ∷ 1 ∷ 1 ∷ 0 ∷ 0 ∷ []) reaches (1 ∷ 1 ∷ 1 ∷ 1 ∷ 2 ∷ 1 ∷ []))
     whole)
-    ∷ reported (accepted 2 2)
-    (ended
+    ∷ ended (accepted (totals 2 2))
+    (cleared-with
     (written
     (tables (3 ∷ 2 ∷ 1 ∷ 2 ∷ 3 ∷ 3 ∷ []) (0 ∷ 5 ∷ 5 ∷ 5 ∷ 5 ∷ 5 ∷ []) (0 ∷ 1 ∷ 1 ∷ 1 ∷ 1 ∷ 1 ∷ []) (3 ∷ 3 ∷ []))
     (0 ∷ 0 ∷ 1 ∷ 1 ∷ 1 ∷ 0 ∷ []) reaches (1 ∷ 1 ∷ 2 ∷ 1 ∷ 2 ∷ 1 ∷ []))
     whole)
-    ∷ reported (accepted 2 0)
-    (ended
+    ∷ ended (accepted (totals 2 0))
+    (cleared-with
     (written
     (tables (3 ∷ 2 ∷ 4 ∷ 2 ∷ 2 ∷ 2 ∷ []) (2 ∷ 5 ∷ 2 ∷ 5 ∷ 5 ∷ 5 ∷ []) (replicate 6 0) (6 ∷ []))
     (replicate 6 0) reaches (replicate 6 1))
     whole)
-    ∷ reported (refused 22) (given-all 2)
-    ∷ reported (refused 23) (ended (given-tables 2) (net (2 ∷ 2 ∷ 3 ∷ 4 ∷ 5 ∷ absent ∷ []) (2 ∷ 3 ∷ 1 ∷ 0 ∷ 0 ∷ 0 ∷ [])))
-    ∷ reported (refused 2) (given-all 1)
+    ∷ ended (refused 22) (given-all 2)
+    ∷ ended (refused 23) (cleared-with (given-tables 2) (net (2 ∷ 2 ∷ 3 ∷ 4 ∷ 5 ∷ absent ∷ []) (2 ∷ 3 ∷ 1 ∷ 0 ∷ 0 ∷ 0 ∷ [])))
+    ∷ ended (refused 2) (given-all 1)
     ∷ []
 
 pub paper : computed ≡ printed
-unfolding computed printed whole own other sevens given-tables given-all ended reaches reportOutcome reportRefusal earlyRefusal lateRefusal wrongLent wrongFigures figures first given unless badCount wrongLength odd fault firstFault damaged damagedBy sound badWork cleared zeros badLimits tooHeavy wrongTables divided replied sameNet sameTable netOf reach edgeBlocks edgeBlock lower blockCount different blocksAt filtered touches bound boundOf isCut volume volumeOf tabulate sum count member edges
+unfolding computed printed whole own other sevens given-tables given-all cleared-with reaches reportOutcome reportRefusal earlyRefusal unlike wrongCompared listRefusal wrongLent wrongFigures figures first given unless badCount wrongLength odd fault firstFault damaged damagedBy sound badWork cleared zeros badLimits tooHeavy wrongTables divided judged sameNet sameTable netOf reach edgeBlocks edgeBlock lower blockCount different blocksAt filtered touches bound boundOf isCut volume volumeOf totalsOf tabulate sum count member edges
 paper = refl

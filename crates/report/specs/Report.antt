@@ -7,22 +7,22 @@
 -- 30 and 22 look at the net, never at the comparison tables; 20 counts the edges of the list alone.
 -- The work tables end as zeros where the comparison was made, at 23 as at acceptance, and stay as they were at every other refusal.
 -- Assumes nothing.
-use mathlib.Core.Bool.{Bool, not, _||_}
+use mathlib.Core.Bool.{Bool, _||_}
 use mathlib.Core.List.{List, [], _∷_}
-use Prim.Native.Nat.{ℕ, _+_}
-use lib.Dec.{ltb}
+use Prim.Native.Nat.{ℕ}
 use lib.ListN.{length}
 use Rattle.game.specs.Table.{tabulate}
 use Rattle.game.specs.Edge.{Edge, edges}
 use Rattle.game.specs.Net.{Net, netOf, reach}
-use Rattle.refusal.specs.Limits.{maxEdges}
-use Rattle.refusal.specs.Refusal.{given, first, unless, badCount, wrongLength, odd, firstFault}
+use Rattle.refusal.specs.Refusal.{given, first, unless, badCount, wrongLength, odd}
+use Rattle.refusal.specs.Verdict.{judged}
+use Rattle.refusal.specs.Outcome.{Outcome, ended}
 use Rattle.net.specs.Damage.{damaged}
-use Rattle.growth.specs.Work.{Work, badWork, cleared}
+use Rattle.growth.specs.Work.{Work, cleared}
 use Rattle.partition.specs.Divide.{Tables, tables, badLimits, tooHeavy, divided, wrongTables}
-use Rattle.cost.specs.Figures.{edgeBlocks, blockCount, boundOf, volumeOf}
-use Rattle.report.specs.Compare.{sameNet}
-use Rattle.report.specs.Answer.{Reply, replied}
+use Rattle.cost.specs.declared.Totals.{Totals}
+use Rattle.cost.specs.Figures.{edgeBlocks, blockCount, totalsOf}
+use Rattle.compare.specs.Compare.{wrongCompared, listRefusal, unlike}
 
 -- what Report writes of a net: Divide's tables, and the figures of the edges and the vertices
 pub record Written : Type 0 where
@@ -43,29 +43,16 @@ written d e r c = record { division = d; edgeBlocks = e; reach = r; blockCount =
 abbrev pub lent : Written → Net → Work → Lent
 lent w c o = record { written = w; compared = c; work = o }
 
-pub record ReportOutcome : Type 0 where
-  pub reply : Reply
-  pub tables : Lent
-
--- what a call ended with
-abbrev pub reported : Reply → Lent → ReportOutcome
-reported r t = record { reply = r; tables = t }
-
 -- 2, of the tables that Divide does not know: n entries for the vertices, m for the edges
-unfoldable pub wrongFigures : ℕ → ℕ → Written → Net → Bool
-wrongFigures n m was compared =
-    wrongLength (length (was .edgeBlocks)) m
-    || wrongLength (length (was .reach)) n
-    || wrongLength (length (was .blockCount)) n
-    || wrongLength (length (compared .parents)) n
-    || wrongLength (length (compared .weights)) n
+unfoldable pub wrongFigures : ℕ → ℕ → Written → Bool
+wrongFigures n m was = wrongLength (length (was .edgeBlocks)) m || wrongLength (length (was .reach)) n || wrongLength (length (was .blockCount)) n
 
 -- 2: "a table of the wrong length for the call, or a tie list of odd length"
 unfoldable pub wrongLent : Net → ℕ → List ℕ → Lent → Bool
 wrongLent of k xs was =
     let n : ℕ = length (of .parents) in
     let m : ℕ = length (edges xs) in
-    wrongTables of k (was .written .division) || wrongFigures n m (was .written) (was .compared) || badWork n (n + m) (was .work) || odd xs
+    wrongTables of k (was .written .division) || wrongFigures n m (was .written) || wrongCompared n m (was .compared) (was .work) || odd xs
 
 -- the number for which Report is refused before anything is compared, or 0; `wrong` tells whether a length is
 unfoldable pub earlyRefusal : Net → ℕ → ℕ → List ℕ → (wrong : Bool) → ℕ
@@ -76,17 +63,13 @@ earlyRefusal of B k xs wrong =
     ∷ given wrong 2
     ∷ given (badLimits B k) 8
     ∷ given (damaged of) 30
-    ∷ firstFault n (edges xs)
-    ∷ given (ltb maxEdges (length (edges xs))) 20
+    ∷ listRefusal n xs
     ∷ given (tooHeavy B (of .weights)) 22
     ∷ [])
 
--- 23: "the ties reported on have other parents or loads than the net"
-unfoldable pub lateRefusal : Net → List Edge → ℕ
-lateRefusal of es = given (not (sameNet of (netOf (length (of .parents)) es))) 23
-
+-- the number for which Report is refused, or 0; 23 comes last
 unfoldable pub reportRefusal : Net → ℕ → ℕ → List ℕ → Lent → ℕ
-reportRefusal of B k xs was = first (earlyRefusal of B k xs (wrongLent of k xs was) ∷ lateRefusal of (edges xs) ∷ [])
+reportRefusal of B k xs was = first (earlyRefusal of B k xs (wrongLent of k xs was) ∷ unlike of (edges xs) ∷ [])
 
 -- what Report writes when it is accepted
 unfoldable pub figures : Net → ℕ → ℕ → List Edge → Written
@@ -95,10 +78,10 @@ figures of B k es =
     let n : ℕ = length (of .parents) in
     written division (edgeBlocks (division .block) es) (tabulate n (reach (of .parents) es)) (tabulate n (blockCount k (division .block) es))
 
-unfoldable pub reportOutcome : Net → ℕ → ℕ → List ℕ → Lent → ReportOutcome
+unfoldable pub reportOutcome : Net → ℕ → ℕ → List ℕ → Lent → Outcome Totals Lent
 reportOutcome of B k xs was =
     let es : List Edge = edges xs in
-    reported
-    (replied (reportRefusal of B k xs was) (boundOf of es B k) (volumeOf of es B k))
+    ended
+    (judged (reportRefusal of B k xs was) (totalsOf of es B k))
     (unless (earlyRefusal of B k xs (wrongLent of k xs was)) was
-    (lent (unless (lateRefusal of es) (was .written) (figures of B k es)) (netOf (length (of .parents)) es) (cleared (was .work))))
+    (lent (unless (unlike of es) (was .written) (figures of B k es)) (netOf (length (of .parents)) es) (cleared (was .work))))

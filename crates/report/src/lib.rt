@@ -1,13 +1,12 @@
 // Report: divides a net and says what the division costs. Beside the tables of Divide it writes the block of each edge and the reach and
 // the block count of each vertex, and answers the bound and the volume of communication between the blocks.
-mod comparing;
 mod reporting;
 
-pub use comparing::compare;
+use cost::Totals;
 pub use reporting::report;
 
-// What Report answers: the bound and the volume of the division, or the number of document 01's table for which it was refused.
+// What Report answers: the totals of the division, or the number of document 01's table for which it was refused.
 pub enum ReportAnswer {
-    Accepted { bound: u64, volume: u64 },
+    Accepted(Totals),
     Refused(u32),
 }

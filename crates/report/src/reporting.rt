@@ -1,8 +1,8 @@
 // The call Report. It decides by reading alone, up to 22; then it grows the net of the edges into the comparison tables and compares;
 // only then it writes anything else.
 use crate::ReportAnswer;
-use crate::comparing;
-use net::Forest;
+use cost::Totals;
+use net::Net;
 use partition::cut_and_pack;
 use reach::reaches;
 ghost use mathlib.Core.Path.{_≡_};
@@ -12,57 +12,18 @@ ghost use lib.ListN.{length};
 ghost use Rattle.game.specs.Edge.{edges as edgesOf};
 ghost use Rattle.game.specs.Net.{net};
 ghost use Rattle.refusal.specs.Refusal.{wrongLength};
+ghost use Rattle.refusal.specs.Outcome.{ended};
 ghost use Rattle.partition.specs.Divide.{tables};
 ghost use Rattle.growth.specs.Work.{workOf};
-ghost use Rattle.report.specs.Report.{earlyRefusal, written, lent, reported, reportOutcome};
-ghost use Rattle.report.specs.Answer.{reply};
-ghost use Rattle.report.specs.Work.{Reportable, Spread, Answered};
+ghost use Rattle.report.specs.Report.{earlyRefusal, written, lent, reportOutcome};
+ghost use Rattle.report.specs.Answer.{verdict};
+ghost use Rattle.report.specs.Steps.{Reportable, Spread, Answered};
 
-fn wide(x: u32) -> usize
-    ensures { λ r. ⌜ r ≡ x ⌝ }
+// Whether one of the tables that a division does not know has another length than it needs: n entries for the vertices, m for the edges.
+fn wrong_figures(n: usize, m: usize, edge_blocks: usize, reach: usize, block_count: usize) -> bool
+    ensures { λ r. ⌜ r ≡ (wrongLength «edge_blocks» m || wrongLength reach n || wrongLength «block_count» n) ⌝ }
 {
-    x as usize
-}
-
-// Whether one of the tables of a division has another length than it needs: n entries for the vertices, k for the blocks.
-fn wrong_division(
-    n: usize,
-    k: usize,
-    weights: usize,
-    carried: usize,
-    top: usize,
-    block: usize,
-    block_loads: usize,
-) -> bool
-    ensures { λ r. ⌜ r ≡ (wrongLength weights n || wrongLength carried n || wrongLength top n || wrongLength block n || wrongLength «block_loads» k) ⌝ }
-{
-    (weights != n) | (carried != n) | (top != n) | (block != n) | (block_loads != k)
-}
-
-// Whether one of the other tables has: n entries for the vertices, m for the edges, n + m for both.
-fn wrong_figures(
-    n: usize,
-    m: usize,
-    edge_blocks: usize,
-    reach: usize,
-    block_count: usize,
-    compared_parents: usize,
-    compared_weights: usize,
-) -> bool
-    ensures { λ r. ⌜ r ≡ (wrongLength «edge_blocks» m || wrongLength reach n || wrongLength «block_count» n || wrongLength «compared_parents» n || wrongLength «compared_weights» n) ⌝ }
-{
-    (edge_blocks != m)
-        | (reach != n)
-        | (block_count != n)
-        | (compared_parents != n)
-        | (compared_weights != n)
-}
-
-// Whether one of the work tables has.
-fn wrong_work(n: usize, both: usize, ends: usize, jump: usize, lower: usize) -> bool
-    ensures { λ r. ⌜ r ≡ (wrongLength ends n || wrongLength jump n || wrongLength lower both) ⌝ }
-{
-    (ends != n) | (jump != n) | (lower != both)
+    (edge_blocks != m) | (reach != n) | (block_count != n)
 }
 
 // The number for which Report is refused before anything is compared, or 0. Whether a length is wrong was found out before.
@@ -87,15 +48,12 @@ fn early_refusal(
     if partition::bad_limits(limit, blocks) {
         return 8;
     }
-    if Forest::of(parents, weights).is_damaged(parents) {
+    if Net::of(weights).is_damaged(parents) {
         return 30;
     }
-    let fault = refusal::list_fault(n, edges);
-    if fault != 0 {
-        return fault;
-    }
-    if refusal::MAX_EDGES < edges.len() / 2 {
-        return 20;
+    let list = compare::list_refusal(n, edges);
+    if list != 0 {
+        return list;
     }
     if partition::too_heavy(limit, weights) {
         return 22;
@@ -153,7 +111,7 @@ fn write_report(
 ) -> ReportAnswer
     requires { ⌜ Reportable (now parents) (now weights) limit (now edges) (written (tables (now carried) (now top) (now block) (now «block_loads»)) (now «edge_blocks») (now reach) (now «block_count»)) ⌝ }
     requires { ⌜ (length (now ends) ≡ length (now parents)) × (length (now lower) ≡ length (now parents) + length (edgesOf (now edges))) ⌝ }
-    ensures { λ r. ⌜ Answered (net (now (parents .entry)) (now (weights .entry))) limit (length (now («block_loads» .entry))) (edgesOf (now (edges .entry))) (now (ends .entry)) (now (lower .entry)) (reply r) (written (tables (now (carried .exit)) (now (top .exit)) (now (block .exit)) (now («block_loads» .exit))) (now («edge_blocks» .exit)) (now (reach .exit)) (now («block_count» .exit))) (now (ends .exit)) (now (lower .exit)) ⌝ }
+    ensures { λ r. ⌜ Answered (net (now (parents .entry)) (now (weights .entry))) limit (length (now («block_loads» .entry))) (edgesOf (now (edges .entry))) (now (ends .entry)) (now (lower .entry)) (verdict r) (written (tables (now (carried .exit)) (now (top .exit)) (now (block .exit)) (now («block_loads» .exit))) (now («edge_blocks» .exit)) (now (reach .exit)) (now («block_count» .exit))) (now (ends .exit)) (now (lower .exit)) ⌝ }
 {
     divide_and_reach(
         parents,
@@ -172,7 +130,7 @@ fn write_report(
     cost::write_block_counts(edges, weights, block, block_count, ends, lower);
     let bound = cost::bound(parents, top, reach);
     let volume = cost::volume(block_count);
-    ReportAnswer::Accepted { bound, volume }
+    ReportAnswer::Accepted(Totals { bound, volume })
 }
 
 // Divides a net and reports what the division costs, given the net's own edges. Beside Divide's tables it writes the block of each
@@ -199,7 +157,7 @@ pub fn report(
     lower: &mut [u32],
 ) -> ReportAnswer
     ensures { λ r. ⌜
-        reported (reply r)
+        ended (verdict r)
         (lent (written (tables (now (carried .exit)) (now (top .exit)) (now (block .exit)) (now («block_loads» .exit))) (now («edge_blocks» .exit)) (now (reach .exit)) (now («block_count» .exit)))
         (net (now («compared_parents» .exit)) (now («compared_weights» .exit)))
         (workOf (now (ends .exit)) (now (jump .exit)) (now (lower .exit))))
@@ -210,31 +168,31 @@ pub fn report(
 {
     let n = parents.len();
     let m = edges.len() / 2;
-    let wrong = wrong_division(
+    let wrong = partition::wrong_tables(
         n,
-        wide(blocks),
+        table::wide(blocks),
         weights.len(),
         carried.len(),
         top.len(),
         block.len(),
         block_loads.len(),
     )
-        | wrong_figures(
+        | wrong_figures(n, m, edge_blocks.len(), reach.len(), block_count.len())
+        | compare::wrong_compared(
             n,
-            m,
-            edge_blocks.len(),
-            reach.len(),
-            block_count.len(),
+            n + m,
             compared_parents.len(),
             compared_weights.len(),
+            ends.len(),
+            jump.len(),
+            lower.len(),
         )
-        | wrong_work(n, n + m, ends.len(), jump.len(), lower.len())
         | (edges.len() % 2 != 0);
     let code = early_refusal(parents, weights, limit, blocks, edges, wrong);
     if code != 0 {
         return ReportAnswer::Refused(code);
     }
-    if !comparing::compare(
+    if !compare::compare(
         parents,
         weights,
         edges,

@@ -5,23 +5,27 @@ use mathlib.Core.Bool.{false}
 use mathlib.Core.List.{List, [], _∷_}
 use Prim.Native.Nat.{ℕ, _/_, _≤_}
 use native.Mathlib.Omega.{arith}
-use lib.ListN.{length, take, drop}
+use lib.ListN.{length, take, drop, replicate, length-replicate}
+use lib.Seq.{length-take-le}
 use Rattle.game.specs.Edge.{edges}
 use Rattle.game.specs.Net.{netOf}
 use Rattle.game.proofs.Edges.{edges-length}
 use Rattle.refusal.specs.Refusal.{given, first, unless, firstFault}
-use Rattle.refusal.proofs.First.{first-none, first-pass, first-stop, first-last, first-end, given-none, unless-refused}
+use Rattle.refusal.proofs.First.{first-none, first-pass, first-stop, first-last, given-none, unless-refused}
 use Rattle.words.specs.Word.{words}
 use Rattle.words.proofs.Bytes.{words-length}
 use Rattle.relabel.specs.Relabel.{badOrder, relabelled}
 use Rattle.partition.specs.Divide.{badLimits, tooHeavy}
 use Rattle.decimal.specs.Put.{Put}
 use Rattle.decimal.proofs.Runs.{put-front}
-use Rattle.run.specs.Files.{Files, vertexCount, order, edgeList, limit, blocks}
-use Rattle.run.specs.Run.{rankedEdges, runNet, fileRefusal, runRefusal, vertexCapacity}
-use Rattle.run.specs.Text.{refusedText, reportText, runText}
-use Rattle.run.specs.Work.{sizeRefusal, Runnable, Loaded, netText, endCapacity}
-use Rattle.run.proofs.Loading.{Sizes, sizes}
+use Rattle.printing.specs.Lines.{refusedText}
+use Rattle.files.specs.Files.{Files, vertexCount, order, edgeList, limit, blocks, vertexCapacity}
+use Rattle.files.specs.Refused.{fileRefusal}
+use Rattle.files.specs.Steps.{Loaded, endCapacity}
+use Rattle.files.proofs.Loading.{Sizes, sizes, sizes-pass}
+use Rattle.run.specs.Run.{rankedEdges, runNet, runRefusal}
+use Rattle.run.specs.Text.{reportText, runText}
+use Rattle.run.specs.Steps.{Runnable, netText}
 
 module _ (f : Files) where
   as-long : length (order f) ≡ vertexCount f
@@ -30,14 +34,6 @@ module _ (f : Files) where
 
   -- files that are not refused
   module _ (z : fileRefusal f ≡ 0) where
-    pub sizes-pass : sizeRefusal f ≡ 0
-    unfolding fileRefusal sizeRefusal
-    sizes-pass =
-        let a = first-none _ _ z in
-        let b = first-none _ _ (a .1) in
-        let c = first-none _ _ (b .1) in
-        first-pass _ _ (a .0) ∙ first-pass _ _ (b .0) ∙ first-pass _ _ (c .0) ∙ first-end
-
     -- what they say
     said : (badOrder (order f) ≡ false) × (badLimits (limit f) (blocks f) ≡ false) × (firstFault (vertexCount f) (edges (edgeList f)) ≡ 0)
     unfolding fileRefusal
@@ -56,7 +52,7 @@ module _ (f : Files) where
     pub runnable : Runnable (order f) (edgeList f)
     unfolding order edgeList vertexCount
     runnable =
-        let s : Sizes f = sizes f sizes-pass in
+        let s : Sizes f = sizes f (sizes-pass f z) in
         let n : length (words (f .marks)) ≡ length (f .marks) / 4 = words-length (f .marks) in
         let m : length (words (f .ties)) ≡ length (f .ties) / 4 = words-length (f .ties) in
         record {
@@ -79,7 +75,7 @@ module _ (f : Files) where
         text code = unless code (refusedText code) (reportText (order f) (rankedEdges f) (limit f) (blocks f))
 
   -- files that are refused
-  refused-text : {code : ℕ} → code ≡ fileRefusal f → (code ≡ 0 → ⊥) → refusedText code ≡ runText f
+  pub refused-text : {code : ℕ} → code ≡ fileRefusal f → (code ≡ 0 → ⊥) → refusedText code ≡ runText f
   unfolding runText runRefusal
   refused-text {code} e d =
       ap refusedText is ∙ sym (unless-refused _ (refusedText _) _ (λ z. d (is ∙ z)))
@@ -112,8 +108,18 @@ module _ {f : Files} {o xs : List ℕ} {code : ℕ} (l : Loaded f o xs code) whe
     pub limits-good : {B k : ℕ} → B ≡ limit f → k ≡ blocks f → badLimits B k ≡ false
     limits-good eB ek = (λ i. badLimits (eB i) (ek i)) ∙ good-limits f passed
 
-    pub parts-fit : (length (f .marks) / 4 ≤ vertexCapacity) × (length (f .ties) / 4 ≤ endCapacity)
-    parts-fit = let s : Sizes f = sizes-known in (s .vertices, omega (arith, s .edges, s .ties))
+    -- the parts of the tables that they take
+    pub order-fits : length o ≡ length {A = ℕ} (replicate vertexCapacity 0) → length (f .marks) / 4 ≤ length o
+    order-fits e = omega (arith, sizes-known .vertices, e, length-replicate {A = ℕ} vertexCapacity 0)
+
+    pub order-counted : length o ≡ length {A = ℕ} (replicate vertexCapacity 0) → length (f .marks) / 4 ≡ length (take (length (f .marks) / 4) o)
+    order-counted e = sym (length-take-le _ o (order-fits e))
+
+    pub edges-fit : length xs ≡ length {A = ℕ} (replicate endCapacity 0) → length (f .ties) / 4 ≤ length xs
+    edges-fit e = omega (arith, sizes-known .edges, sizes-known .ties, e, length-replicate {A = ℕ} endCapacity 0)
+
+    pub edges-counted : length xs ≡ length {A = ℕ} (replicate endCapacity 0) → length (f .ties) / 4 ≡ length (take (length (f .ties) / 4) xs)
+    edges-counted e = sym (length-take-le _ xs (edges-fit e))
 
     pub ends-accepted : {was now : List ℕ} {B k end : ℕ} → B ≡ limit f → k ≡ blocks f
         → Put was 0 (netText (take (length (f .marks) / 4) o) (edges (relabelled (take (length (f .marks) / 4) o) (take (length (f .ties) / 4) xs))) B k) now end

@@ -12,17 +12,18 @@ use Rattle.game.specs.Net.{net, netOf}
 use Rattle.game.proofs.Edges.{edges-length}
 use Rattle.refusal.specs.Limits.{maxVertices}
 use Rattle.refusal.specs.Refusal.{badCount, firstFault}
+use Rattle.refusal.specs.Verdict.{Verdict}
 use Rattle.refusal.specs.Outcome.{Outcome, ended, decided}
 use Rattle.refusal.proofs.First.{pass, first-last, right-length, even-list, unless-accepted}
-use Rattle.growth.specs.Work.{workOf, Growing, growing}
-use Rattle.forest.specs.Start.{startOutcome}
-use Rattle.forest.specs.Add.{addOutcome}
+use Rattle.growth.specs.Work.{Work, workOf, Growing, growing}
+use Rattle.starting.specs.Start.{startOutcome}
+use Rattle.adding.specs.Add.{addOutcome}
 use Rattle.relabel.specs.Relabel.{relabelled, inverseOf, Tables, tables, relabelRefusal, relabelOutcome}
 use Rattle.relabel.proofs.Relabelled.{relabelled-length, relabelled-faultless}
-use Rattle.report.specs.Compare.{Growable}
-use Rattle.report.proofs.Compared.{grown-tables}
-use Rattle.run.specs.Work.{Runnable, GrowRoom, Grown}
-use Rattle.run.specs.Run.{vertexCapacity}
+use Rattle.compare.specs.Steps.{Growable}
+use Rattle.compare.proofs.Compared.{grown-tables}
+use Rattle.files.specs.Files.{vertexCapacity}
+use Rattle.run.specs.Steps.{Runnable, GrowRoom, Grown}
 
 pub few-vertices : (n : ℕ) → 0 < n → n ≤ vertexCapacity → badCount n ≡ false
 unfolding badCount
@@ -35,25 +36,32 @@ ranked-length o xs e = ap length e ∙ relabelled-length o xs
 pub ranked-count : (o xs : List ℕ) {ranks : List ℕ} → ranks ≡ relabelled o xs → length (edges ranks) ≡ length (edges xs)
 ranked-count o xs {ranks} e = edges-length ranks ∙ ap (λ (n : ℕ). n / 2) (ranked-length o xs e) ∙ sym (edges-length xs)
 
-module _ {o xs ranks p w e j l : List ℕ} (r : Runnable o xs) (room : GrowRoom o xs ranks (net p w) (workOf e j l)) where
-  passes : relabelRefusal o xs (length ranks) (length e) ≡ 0
+-- the tables of growing's own
+pub record GrowWork (o xs inverse : List ℕ) (work : Work) : Type 0 where
+  pub inverted : length inverse ≡ length o
+  pub ends : length (work .ends) ≡ length o
+  pub jump : length (work .jump) ≡ length o
+  pub lower : length (work .lower) ≡ length o + length (edges xs)
+
+module _ {o xs ranks p w v e j l : List ℕ} (r : Runnable o xs) (room : GrowRoom o xs ranks (net p w)) (own : GrowWork o xs v (workOf e j l)) where
+  passes : relabelRefusal o xs (length ranks) (length v) ≡ 0
   unfolding relabelRefusal
   passes =
       pass 1 _ (few-vertices (length o) (r .some) (r .vertices))
       ∙ pass 2 _ (even-list xs (r .even))
       ∙ pass 2 _ (right-length (length ranks) (length xs) (room .ranked))
-      ∙ pass 2 _ (right-length (length e) (length o) (room .ends))
+      ∙ pass 2 _ (right-length (length v) (length o) (own .inverted))
       ∙ pass 3 _ (r .good)
       ∙ first-last _
       ∙ r .faultless
 
   -- the edges by rank
-  module _ {m : ℕ} {ranks′ e′ : List ℕ} (relabels : ended m (tables ranks′ e′) ≡ relabelOutcome o xs (tables ranks e)) where
+  module _ {m : Verdict (Unit {0})} {ranks′ v′ : List ℕ} (relabels : ended m (tables ranks′ v′) ≡ relabelOutcome o xs (tables ranks v)) where
     by-rank : ranks′ ≡ relabelled o xs
     unfolding relabelOutcome decided
     by-rank =
-        ap (λ (t : Outcome Tables). t .tables .out) relabels
-        ∙ ap (λ (t : Tables). t .out) (unless-accepted (relabelRefusal o xs (length ranks) (length e)) (tables ranks e) (tables (relabelled o xs) (inverseOf o)) passes)
+        ap (λ (t : Outcome (Unit {0}) Tables). t .tables .out) relabels
+        ∙ ap (λ (t : Tables). t .out) (unless-accepted (relabelRefusal o xs (length ranks) (length v)) (tables ranks v) (tables (relabelled o xs) (inverseOf o)) passes)
 
     as-long : length ranks′ ≡ length xs
     as-long = ranked-length o xs by-rank
@@ -61,8 +69,8 @@ module _ {o xs ranks p w e j l : List ℕ} (r : Runnable o xs) (room : GrowRoom 
     as-many : length (edges ranks′) ≡ length (edges xs)
     as-many = ranked-count o xs by-rank
 
-    growable : length e′ ≡ length e → Growable ranks′ (net p w) (workOf e′ j l)
-    growable k =
+    growable : Growable ranks′ (net p w) (workOf e j l)
+    growable =
         record {
           some = omega (arith, r .some, room .parents);
           vertices = omega (arith, r .vertices, room .parents);
@@ -72,17 +80,17 @@ module _ {o xs ranks p w e j l : List ℕ} (r : Runnable o xs) (room : GrowRoom 
               ap₂ (λ (n : ℕ) (ys : List ℕ). firstFault n (edges ys)) (room .parents) by-rank
               ∙ relabelled-faultless o (r .good) xs (r .faultless);
           weights = room .weights ∙ sym (room .parents);
-          ends = k ∙ room .ends ∙ sym (room .parents);
-          jump = room .jump ∙ sym (room .parents);
-          lower = room .lower ∙ ap₂ (λ (n m : ℕ). n + m) (sym (room .parents)) (sym as-many);
+          ends = own .ends ∙ sym (room .parents);
+          jump = own .jump ∙ sym (room .parents);
+          lower = own .lower ∙ ap₂ (λ (n m : ℕ). n + m) (sym (room .parents)) (sym as-many);
         }
 
     -- all calls together
-    pub all-grown : length e′ ≡ length e → {m′ m″ : ℕ} {p′ w′ p″ w″ e″ j″ l″ : List ℕ} → ended m′ (net p′ w′) ≡ startOutcome (net p w)
-        → ended m″ (growing (net p″ w″) (workOf e″ j″ l″)) ≡ addOutcome (growing (net p′ w′) (workOf e′ j l)) ranks′
+    pub all-grown : {m′ m″ : Verdict (Unit {0})} {p′ w′ p″ w″ e″ j″ l″ : List ℕ} → ended m′ (net p′ w′) ≡ startOutcome (net p w)
+        → ended m″ (growing (net p″ w″) (workOf e″ j″ l″)) ≡ addOutcome (growing (net p′ w′) (workOf e j l)) ranks′
         → Grown o xs ranks′ (net p″ w″)
-    all-grown k s a =
+    all-grown s a =
         record {
           ranked = by-rank;
-          net = ap (λ (g : Growing). g .net) (grown-tables (growable k) s a) ∙ ap₂ (λ (n : ℕ) (ys : List ℕ). netOf n (edges ys)) (room .parents) by-rank;
+          net = ap (λ (g : Growing). g .net) (grown-tables growable s a) ∙ ap₂ (λ (n : ℕ) (ys : List ℕ). netOf n (edges ys)) (room .parents) by-rank;
         }

@@ -1,9 +1,7 @@
--- Laws of a run's text, of its files and of its steps. Nothing here needs to be believed: it is all proved.
-pub mod Pieces
-pub mod Taking
-pub mod Loading
+-- Laws of a run's steps and of its text. Nothing here needs to be believed: it is all proved.
 pub mod Growing
 pub mod Reporting
+pub mod Zeroed
 pub mod Dividing
-pub mod Parts
 pub mod Finished
+pub mod Front

@@ -1,6 +1,5 @@
 -- A run of `blocks`: from the bytes of three files to the text that it prints.
-pub mod Files
 pub mod Run
 pub mod Text
-pub mod Work
+pub mod Steps
 pub mod Paper

@@ -5,20 +5,22 @@ use mathlib.Core.Path.{_≡_, refl}
 use mathlib.Core.List.{List, [], _∷_, _++_}
 use Prim.Native.Nat.{ℕ}
 use lib.ListN.{replicate}
-use Rattle.game.specs.Table.{tabulate, sum, count, member}
+use Rattle.game.specs.Table.{tabulate, sum, count, member, filtered}
 use Rattle.game.specs.Edge.{lower, edges}
-use Rattle.game.specs.Net.{netOf, reach}
+use Rattle.game.specs.Net.{owner, charge, weight, weights, netOf, reach}
 use Rattle.refusal.specs.Refusal.{given, first, unless, wrongLength, fault, firstFault}
 use Rattle.relabel.specs.Relabel.{badOrder, relabelled}
 use Rattle.partition.specs.Divide.{badLimits, tooHeavy, divided}
-use Rattle.cost.specs.Figures.{filtered, edgeBlock, edgeBlocks, touches, blocksAt, different, blockCount, isCut, bound, volume, boundOf, volumeOf}
+use Rattle.cost.specs.Figures.{edgeBlock, edgeBlocks, touches, blocksAt, different, blockCount, isCut, bound, volume, boundOf, volumeOf, totalsOf}
 use Rattle.report.specs.Report.{figures}
 use Rattle.words.specs.Word.{bytesOf, words, wordAt}
 use Rattle.decimal.specs.Ascii.{ascii}
 use Rattle.decimal.specs.Decimal.{decimal}
-use Rattle.run.specs.Files.{files, vertexCount, edgeCount, order, edgeList, limit, blocks}
-use Rattle.run.specs.Run.{tooMany, partRecord, notRecords, rankedEdges, runNet, fileRefusal, runRefusal}
-use Rattle.run.specs.Text.{refusedText, spaced, ended, parentText, lineText, rankText, linesBelow, totalsText, reportText, runText}
+use Rattle.printing.specs.Lines.{refusedText, spaced, newlined, parentText, lineText, rankText, linesBelow, totalsText}
+use Rattle.files.specs.Files.{files, vertexCount, edgeCount, order, edgeList, limit, blocks}
+use Rattle.files.specs.Refused.{tooMany, partRecord, notRecords, fileRefusal}
+use Rattle.run.specs.Run.{rankedEdges, runNet, runRefusal}
+use Rattle.run.specs.Text.{reportText, runText}
 
 -- the order and the edges of the whole case
 marks : List ℕ
@@ -96,7 +98,7 @@ refusedRuns =
     ∷ []
 
 pub paper : computed ≡ printed
-unfolding computed printed marks ties want zeros ascii decimal runText runRefusal fileRefusal tooMany partRecord notRecords rankedEdges runNet vertexCount edgeCount order edgeList limit blocks refusedText spaced ended parentText lineText rankText linesBelow totalsText reportText words wordAt bytesOf unless first given wrongLength badOrder badLimits firstFault edges fault tooHeavy netOf relabelled figures reach divided lower edgeBlocks edgeBlock blockCount different blocksAt filtered touches bound boundOf isCut volume volumeOf tabulate sum count member
+unfolding computed printed marks ties want zeros ascii decimal runText runRefusal fileRefusal tooMany partRecord notRecords rankedEdges runNet vertexCount edgeCount order edgeList limit blocks refusedText spaced newlined parentText lineText rankText linesBelow totalsText reportText words wordAt bytesOf unless first given wrongLength badOrder badLimits firstFault edges fault tooHeavy netOf relabelled figures reach divided lower owner charge weight weights edgeBlocks edgeBlock blockCount different blocksAt filtered touches bound boundOf isCut volume volumeOf totalsOf tabulate sum count member
 paper = refl
 
 pub refused : refusedRuns ≡ 1 ∷ 1 ∷ 2 ∷ 2 ∷ 6 ∷ 6 ∷ 6 ∷ 3 ∷ 8 ∷ 8 ∷ 4 ∷ 5 ∷ []

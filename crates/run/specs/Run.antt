@@ -1,40 +1,17 @@
--- What a run is refused for.
+-- The net of a run, and what a run is refused for.
 --
--- Document 01: "Its tables hold 1,000 marks and 4,000 ties; more of either prints `refused 2`, even above 1,000,000 marks, and any other
--- refusal prints `refused` and the number. For the order of refusals below a run counts as one call." So 8 comes before 4 and 5, which
--- are found in the vertex numbers, and 6, of each of the files, before what the files say. 21, 30, 7, 20 and 23 cannot arise: the net is
--- made in the run, of at most 4,000 edges, and it is reported on with its own edges.
+-- Document 01: "For the order of refusals below a run counts as one call." First come those of the files. 21, 30, 7, 20 and 23 cannot
+-- arise: the net is made in the run, of at most 4,000 edges, and it is reported on with its own edges. So 22 is left.
 -- Assumes nothing.
-use mathlib.Core.Bool.{Bool, not, _||_}
 use mathlib.Core.List.{List, [], _∷_}
-use Prim.Native.Nat.{ℕ, _%_}
-use lib.Dec.{eqb, ltb}
-use lib.ListN.{length}
+use Prim.Native.Nat.{ℕ}
 use Rattle.game.specs.Edge.{Edge, edges}
 use Rattle.game.specs.Net.{Net, netOf}
-use Rattle.refusal.specs.Refusal.{given, first, wrongLength, firstFault}
-use Rattle.relabel.specs.Relabel.{badOrder, relabelled}
-use Rattle.partition.specs.Divide.{badLimits, tooHeavy}
-use Rattle.run.specs.Files.{Files, vertexCount, edgeCount, order, edgeList, limit, blocks}
-
--- "Its tables hold 1,000 marks and 4,000 ties"
-abbrev pub vertexCapacity : ℕ
-vertexCapacity = 1_000
-
-abbrev pub edgeCapacity : ℕ
-edgeCapacity = 4_000
-
--- 2: "more of either"
-unfoldable pub tooMany : Files → Bool
-tooMany f = ltb vertexCapacity (vertexCount f) || ltb edgeCapacity (edgeCount f)
-
--- bytes that are not whole records of a size
-unfoldable pub partRecord : (size : ℕ) → List ℕ → Bool
-partRecord size bytes = not (eqb (length bytes % size) 0)
-
--- 6: "a file is not whole records, .. or `want.rec` not one record"
-unfoldable pub notRecords : Files → Bool
-notRecords f = partRecord 4 (f .marks) || partRecord 8 (f .ties) || wrongLength (length (f .want)) 8
+use Rattle.refusal.specs.Refusal.{given, first}
+use Rattle.relabel.specs.Relabel.{relabelled}
+use Rattle.partition.specs.Divide.{tooHeavy}
+use Rattle.files.specs.Files.{Files, vertexCount, order, edgeList, limit}
+use Rattle.files.specs.Refused.{fileRefusal}
 
 -- the edges by rank, and their net
 unfoldable pub rankedEdges : Files → List Edge
@@ -42,18 +19,6 @@ rankedEdges f = edges (relabelled (order f) (edgeList f))
 
 unfoldable pub runNet : Files → Net
 runNet f = netOf (vertexCount f) (rankedEdges f)
-
--- the number for which a run is refused before its net is made, or 0; 1 is for no mark alone, since 2 is for more than 1,000
-unfoldable pub fileRefusal : Files → ℕ
-fileRefusal f =
-    first
-    (given (eqb (vertexCount f) 0) 1
-    ∷ given (tooMany f) 2
-    ∷ given (notRecords f) 6
-    ∷ given (badOrder (order f)) 3
-    ∷ given (badLimits (limit f) (blocks f)) 8
-    ∷ firstFault (vertexCount f) (edges (edgeList f))
-    ∷ [])
 
 -- the number for which a run is refused, or 0
 unfoldable pub runRefusal : Files → ℕ

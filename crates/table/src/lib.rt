@@ -1,6 +1,29 @@
-// Whole tables: filled with one number, or copied.
+// Tables: numbers as places in them, and whole tables filled with one number or copied.
 ghost use mathlib.Core.Path.{_≡_};
+ghost use Prim.Native.Nat.{_^_, _<_};
 ghost use lib.ListN.{length, replicate};
+
+// A number as a place in a table.
+pub fn wide(x: u32) -> usize
+    ensures { λ r. ⌜ r ≡ x ⌝ }
+{
+    x as usize
+}
+
+// A place in a table as a number.
+pub fn narrow(x: usize) -> u32
+    requires { ⌜ x < 2 ^ 32 ⌝ }
+    ensures { λ r. ⌜ r ≡ x ⌝ }
+{
+    x as u32
+}
+
+// A number as a part of a sum that takes 64 bits.
+pub fn amount(x: u32) -> u64
+    ensures { λ r. ⌜ r ≡ x ⌝ }
+{
+    x as u64
+}
 
 // Sets every entry of a table to x.
 pub fn fill(table: &mut [u32], x: u32)

@@ -8,11 +8,8 @@ use native.Mathlib.Numerals.{add-one, add-two, add-three, add-four}
 use native.Mathlib.Omega.{arith}
 use lib.ListN.{length, getD, drop, length-drop}
 use lib.Seq.{drop-cons}
+use Rattle.game.specs.Table.{Below}
 use Rattle.words.specs.Word.{wordBytes, wordOf, wordAt, bytesOf, words}
-
--- each entry is below m: bytes are below 256, words below 2 ^ 32
-pub record Below (m : ℕ) (xs : List ℕ) : Type 0 where
-  pub each : (i : ℕ) → i < length xs → getD xs i 0 < m
 
 pub below-head : {m x : ℕ} {xs : List ℕ} → Below m (x ∷ xs) → x < m
 below-head {xs = xs} b = b .each 0 (zero-lt-suc (length xs))

@@ -1,4 +1,4 @@
-use Rattle.exports.proofs.Answered.{ended-as}
+use Rattle.exports.proofs.Answered.{handed-as}
 use borrow.Author.Needs.{needs}
 use Rattle.exports.proofs.niqastul_add.Statement.{statement}
 use Rattle.exports.proofs.niqastul_add.Tie as tie
@@ -25,7 +25,7 @@ same-length-5 : tie.Need-same-length-5
 same-length-5 c = search needs
 
 returns : tie.Need-returns
-returns c = ended-as (c .code .ensures) (c .before .before .before .before .before .before .before .before .before .before .before .add .ensures)
+returns c = handed-as (c .code .ensures) (c .before .before .before .before .before .before .before .before .before .before .before .add .ensures)
 
 pub niqastul-add-spec : {M : Type 1} → statement M
 niqastul-add-spec =

@@ -1,4 +1,4 @@
-use Rattle.exports.proofs.Answered.{ended-as}
+use Rattle.exports.proofs.Answered.{handed-as}
 use borrow.Author.Needs.{needs}
 use Rattle.exports.proofs.niqastul_divide.Statement.{statement}
 use Rattle.exports.proofs.niqastul_divide.Tie as tie
@@ -22,7 +22,7 @@ same-length-4 : tie.Need-same-length-4
 same-length-4 c = search needs
 
 returns : tie.Need-returns
-returns c = ended-as (c .code .ensures) (c .before .before .before .before .before .before .before .before .before .divide .ensures)
+returns c = handed-as (c .code .ensures) (c .before .before .before .before .before .before .before .before .before .divide .ensures)
 
 pub niqastul-divide-spec : {M : Type 1} → statement M
 niqastul-divide-spec =

@@ -1,4 +1,4 @@
-use Rattle.exports.proofs.Answered.{ended-as}
+use Rattle.exports.proofs.Answered.{handed-as}
 use borrow.Author.Needs.{needs}
 use Rattle.exports.proofs.niqastul_read.Statement.{statement}
 use Rattle.exports.proofs.niqastul_read.Tie as tie
@@ -16,7 +16,7 @@ same-length-2 : tie.Need-same-length-2
 same-length-2 c = search needs
 
 returns : tie.Need-returns
-returns c = ended-as (c .code .ensures) (c .before .before .before .before .before .read .ensures)
+returns c = handed-as (c .code .ensures) (c .before .before .before .before .before .read .ensures)
 
 pub niqastul-read-spec : {M : Type 1} → statement M
 niqastul-read-spec =

@@ -1,4 +1,4 @@
-use Rattle.exports.proofs.Answered.{ended-as}
+use Rattle.exports.proofs.Answered.{handed-as}
 use borrow.Author.Needs.{needs}
 use Rattle.exports.proofs.niqastul_relabel.Statement.{statement}
 use Rattle.exports.proofs.niqastul_relabel.Tie as tie
@@ -16,7 +16,7 @@ same-length-2 : tie.Need-same-length-2
 same-length-2 c = search needs
 
 returns : tie.Need-returns
-returns c = ended-as (c .code .ensures) (c .before .before .before .before .before .relabel .ensures)
+returns c = handed-as (c .code .ensures) (c .before .before .before .before .before .relabel .ensures)
 
 pub niqastul-relabel-spec : {M : Type 1} → statement M
 niqastul-relabel-spec =

@@ -9,8 +9,8 @@ report-requires : tie.Need-report-requires
 report-requires c κs = search needs
 
 -- src/lib.rt:170:20
-enum-known-cost : tie.Need-enum-known-cost
-enum-known-cost c = search needs
+enum-known-totals : tie.Need-enum-known-totals
+enum-known-totals c = search needs
 
 -- src/lib.rt:177:31
 enum-known-why : tie.Need-enum-known-why
@@ -66,7 +66,7 @@ same-length-12 c = search needs
 
 -- src/lib.rt:126:1
 returns : tie.Need-returns
-returns c = handed-accepted _ _ (c .before .before .before .before .before .before .before .before .before .before .before .before .before .before .before .before .before .before .before .before .before .before .before .before .before .before .before .report .ensures) (c .before .cost .given .1)
+returns c = handed-accepted _ _ (c .before .before .before .before .before .before .before .before .before .before .before .before .before .before .before .before .before .before .before .before .before .before .before .before .before .before .before .report .ensures) (c .before .totals .given .1)
 
 -- src/lib.rt:126:1
 same-length-13 : tie.Need-same-length-13
@@ -125,7 +125,7 @@ niqastul-report-spec =
     tie.close
     (tie.spec
     report-requires
-    enum-known-cost
+    enum-known-totals
     enum-known-why
     same-length
     same-length-2

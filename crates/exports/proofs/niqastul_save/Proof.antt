@@ -1,4 +1,4 @@
-use Rattle.exports.proofs.Answered.{ended-as}
+use Rattle.exports.proofs.Answered.{handed-as}
 use borrow.Author.Needs.{needs}
 use Rattle.exports.proofs.niqastul_save.Statement.{statement}
 use Rattle.exports.proofs.niqastul_save.Tie as tie
@@ -13,7 +13,7 @@ same-length : tie.Need-same-length
 same-length c = search needs
 
 returns : tie.Need-returns
-returns c = ended-as (c .code .ensures) (c .before .before .before .save .ensures)
+returns c = handed-as (c .code .ensures) (c .before .before .before .save .ensures)
 
 pub niqastul-save-spec : {M : Type 1} → statement M
 niqastul-save-spec = tie.close (tie.spec save-requires code-requires same-length returns)

@@ -20,20 +20,20 @@ loop-holds : tie.Need-loop-holds Inv-loop μ-loop
 loop-holds c = search needs
 
 -- src/lib.rt:95:21
-mul-wide : tie.Need-mul-wide Inv-loop μ-loop
-mul-wide c = search needs
+mul-amount : tie.Need-mul-amount Inv-loop μ-loop
+mul-amount c = search needs
 
 -- src/lib.rt:95:21
-shared-slice-read-wide : tie.Need-shared-slice-read-wide Inv-loop μ-loop
-shared-slice-read-wide c = search needs
+shared-slice-read-amount : tie.Need-shared-slice-read-amount Inv-loop μ-loop
+shared-slice-read-amount c = search needs
 
 -- src/lib.rt:95:16
-wide-requires : tie.Need-wide-requires Inv-loop μ-loop
-wide-requires c κs = search needs
+amount-requires : tie.Need-amount-requires Inv-loop μ-loop
+amount-requires c κs = search needs
 
 -- src/lib.rt:95:9
 add-sum : tie.Need-add-sum Inv-loop μ-loop
-add-sum c = omega (arith, c .before .shared-slice-known2 .given (c .before .before .before .loop .i), c .wide .ensures)
+add-sum c = omega (arith, c .before .shared-slice-known2 .given (c .before .before .before .loop .i), c .amount .ensures)
 
 -- src/lib.rt:96:9
 add-i : tie.Need-add-i Inv-loop μ-loop
@@ -46,7 +46,7 @@ loop-less c = search needs
 -- src/lib.rt:94:5
 loop-again : tie.Need-loop-again Inv-loop μ-loop
 loop-again c =
-    omega (arith, c .before .shared-slice-known2 .given (c .before .before .before .loop .i), c .wide .ensures, sum-drop (c .before .before .before .before .before .args .weights .now) (c .before .before .before .loop .i) (c .before .before .loop-test .taken))
+    omega (arith, c .before .shared-slice-known2 .given (c .before .before .before .loop .i), c .amount .ensures, sum-drop (c .before .before .before .before .before .args .weights .now) (c .before .before .before .loop .i) (c .before .before .loop-test .taken))
 
 -- src/lib.rt:88:1
 returns : tie.Need-returns Inv-loop μ-loop
@@ -59,9 +59,9 @@ total-spec =
     Inv-loop
     μ-loop
     loop-holds
-    mul-wide
-    shared-slice-read-wide
-    wide-requires
+    mul-amount
+    shared-slice-read-amount
+    amount-requires
     add-sum
     add-i
     loop-less

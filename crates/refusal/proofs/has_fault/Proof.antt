@@ -1,7 +1,7 @@
 use mathlib.Core.Bool.{_||_}
 use mathlib.Core.Path.{_≡_, sym, _∙_}
 use Rattle.game.specs.Edge.{edges as edgesOf}
-use Rattle.refusal.specs.Refusal.{someFault}
+use Rattle.refusal.specs.Steps.{someFault}
 use Rattle.refusal.proofs.Sweep.{sweep-on, sweep-end}
 use Prim.Native.Nat.{_-_, _≤_}
 use lib.ListN.{length, drop}

@@ -1,5 +1,5 @@
 use mathlib.Core.Path.{refl}
-use Rattle.refusal.specs.Refusal.{isFaulty}
+use Rattle.refusal.specs.Steps.{isFaulty}
 use Rattle.refusal.proofs.is_faulty.Statement.{statement}
 use Rattle.refusal.proofs.is_faulty.Tie as tie
 

@@ -49,10 +49,9 @@ insert-requires : tie.Need-insert-requires Inv-loop μ-loop
 insert-requires c κs =
     let r = c .before .before .before .before .before .before .before .before .loop .inv in
     let l = c .before .before .before .before .before .before .before .loop-test .taken in
-    let e = c .before .before .before .before .before .wide .ensures in (
-      read-room r l e (c .before .before .before .before .before .before .before .before .before .before .pre) (c .before .before .before .before .if1 .left),
-      read-clear r l e (sym (c .before .before .contains .ensures) ∙ c .before .if2 .left),
-    )
+    let e = c .before .before .before .before .before .wide .ensures in
+    let p = read-room r l e (c .before .before .before .before .before .before .before .before .before .before .pre) (c .before .before .before .before .if1 .left) in
+    (p .0, p .1, read-clear r l e (sym (c .before .before .contains .ensures) ∙ c .before .if2 .left))
 
 loop-less : tie.Need-loop-less Inv-loop μ-loop
 loop-less c = search needs

@@ -1,4 +1,5 @@
-use Prim.Native.Nat.{_/_}
+use Prim.Native.Nat.{_%_}
+use Rattle.relabel.specs.VertexSet.{setWords}
 use borrow.Author.Needs.{needs}
 use Rattle.relabel.proofs.Bits.{set-bit-shifted, set-bit-fits}
 use Rattle.relabel.proofs.insert.Statement.{statement}
@@ -17,7 +18,7 @@ slice-read-set : tie.Need-slice-read-set
 slice-read-set c = search needs
 
 add-set : tie.Need-add-set
-add-set c = record { fits = set-bit-fits _ _ (c .before .pre .1) (c .slice-known .given (c .before .args .v / 32) .fits) }
+add-set c = record { fits = set-bit-fits _ _ (c .before .pre .2) (c .before .pre .1) (c .slice-known .given (c .before .args .v % setWords) .fits) }
 
 slice-write-set : tie.Need-slice-write-set
 slice-write-set c = search needs
@@ -26,7 +27,7 @@ same-length : tie.Need-same-length
 same-length c = search needs
 
 returns : tie.Need-returns
-returns c = set-bit-shifted _ _
+returns c = set-bit-shifted _ _ (c .before .pre .1)
 
 pub insert-spec : {M : Type 1} → statement M
 insert-spec =

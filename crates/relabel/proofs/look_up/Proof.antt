@@ -28,11 +28,11 @@ wide-requires c κs = search needs
 
 mul-out : tie.Need-mul-out Inv-loop μ-loop
 mul-out c =
-    omega (arith, c .wide .ensures, c .before .before .before .before .before .before .before .pre .1 .entry (c .before .before .before .loop .i) (c .before .before .loop-test .taken))
+    omega (arith, c .wide .ensures, c .before .before .before .before .before .before .before .pre .1 .each (c .before .before .before .loop .i) (c .before .before .loop-test .taken))
 
 shared-slice-read-out : tie.Need-shared-slice-read-out Inv-loop μ-loop
 shared-slice-read-out c =
-    omega (arith, c .before .wide .ensures, c .before .before .before .before .before .before .before .before .pre .1 .entry (c .before .before .before .before .loop .i) (c .before .before .before .loop-test .taken))
+    omega (arith, c .before .wide .ensures, c .before .before .before .before .before .before .before .before .pre .1 .each (c .before .before .before .before .loop .i) (c .before .before .before .loop-test .taken))
 
 mul-out-2 : tie.Need-mul-out-2 Inv-loop μ-loop
 mul-out-2 c = search needs

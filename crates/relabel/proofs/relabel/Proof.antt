@@ -1,6 +1,6 @@
 use borrow.Author.Needs.{needs}
-use Rattle.refusal.specs.Answer.{number}
-use Rattle.relabel.proofs.Refused.{accepted}
+use Rattle.refusal.specs.Answer.{verdict}
+use Rattle.relabel.proofs.Refused.{relabel-known}
 use Rattle.relabel.proofs.Relabelled.{inverse-room, relabel-refused, relabel-accepted}
 use Rattle.relabel.proofs.relabel.Statement.{statement}
 use Rattle.relabel.proofs.relabel.Tie as tie
@@ -9,17 +9,17 @@ relabel-refusal-requires : tie.Need-relabel-refusal-requires
 relabel-refusal-requires c κs = search needs
 
 returns : tie.Need-returns
-unfolding number
+unfolding verdict
 returns c = relabel-refused _ _ _ _ (c .before .relabel-refusal .ensures) (c .if1 .taken)
 
 invert-requires : tie.Need-invert-requires
 invert-requires c κs =
-    let a = accepted _ _ _ _ (c .before .before .relabel-refusal .ensures) (c .before .if1 .left) in
+    let a = relabel-known _ _ _ _ (c .before .before .relabel-refusal .ensures) (c .before .if1 .left) in
     (a .count, a .good, a .whole)
 
 look-up-requires : tie.Need-look-up-requires
 look-up-requires c κs =
-    let a = accepted _ _ _ _ (c .before .before .before .before .before .before .before .relabel-refusal .ensures) (c .before .before .before .before .before .before .if1 .left) in
+    let a = relabel-known _ _ _ _ (c .before .before .before .before .before .before .before .relabel-refusal .ensures) (c .before .before .before .before .before .before .if1 .left) in
     (a .same, inverse-room _ (c .before .before .before .before .invert .ensures) (a .vertices))
 
 same-length : tie.Need-same-length
@@ -29,7 +29,7 @@ same-length-2 : tie.Need-same-length-2
 same-length-2 c = search needs
 
 returns-2 : tie.Need-returns-2
-unfolding number
+unfolding verdict
 returns-2 c =
     relabel-accepted _ _ _ _ (c .before .before .before .before .before .before .before .before .before .before .relabel-refusal .ensures) (c .before .before .before .before .before .before .before .before .before .if1 .left) (c .before .before .before .before .before .before .before .invert .ensures) (c .before .before .look-up .ensures)
 

@@ -2,7 +2,7 @@ use native.Mathlib.Omega.{arith}
 use Prim.Native.Nat.{_+_, _-_, _≤_}
 use lib.ListN.{length, take}
 use borrow.Author.Needs.{needs}
-use Rattle.cost.specs.Work.{metBlocks, Stamped}
+use Rattle.cost.specs.Steps.{metBlocks, Stamped}
 use Rattle.cost.proofs.Stamps.{stamped-few, met-start, met-step, met-all}
 use mathlib.Core.Path.{_≡_, refl, _∙_}
 use Rattle.cost.proofs.counting.count_at.Statement.{statement}

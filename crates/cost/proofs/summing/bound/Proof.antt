@@ -4,8 +4,8 @@ use Prim.Native.Nat.{ℕ, _*_, _-_, _≤_}
 use lib.ListN.{length}
 use borrow.Author.Needs.{needs}
 use Rattle.game.specs.Table.{tabulate, sum as total}
-use Rattle.cost.specs.Work.{boundTerm, boundBy}
-use Rattle.cost.proofs.Totals.{sum-none}
+use Rattle.cost.specs.Steps.{boundTerm, boundBy}
+use Rattle.cost.proofs.Sums.{sum-none}
 use Rattle.cost.proofs.Summed.{bound-term, bound-term-le, sum-step}
 use Rattle.cost.proofs.summing.bound.Statement.{statement}
 use Rattle.cost.proofs.summing.bound.Tie as tie

@@ -9,11 +9,11 @@ returns c = cut-other (c .before .args .x) (c .before .args .parent) (c .before 
 returns-2 : tie.Need-returns-2
 returns-2 c = cut-root (c .before .before .args .x) (c .before .before .args .parent) (c .before .before .args .top) (c .before .before .args .reach) (c .before .if1 .left) (c .if2 .taken)
 
-wide-requires : tie.Need-wide-requires
-wide-requires c κs = search needs
+amount-requires : tie.Need-amount-requires
+amount-requires c κs = search needs
 
 returns-3 : tie.Need-returns-3
-returns-3 c = cut-here (c .before .before .before .args .x) (c .before .before .before .args .parent) (c .before .before .before .args .top) (c .before .before .before .args .reach) (c .before .before .if1 .left) (c .before .if2 .left) (c .wide .ensures)
+returns-3 c = cut-here (c .before .before .before .args .x) (c .before .before .before .args .parent) (c .before .before .before .args .top) (c .before .before .before .args .reach) (c .before .before .if1 .left) (c .before .if2 .left) (c .amount .ensures)
 
 pub cut-reach-spec : {M : Type 1} → statement M
-cut-reach-spec = tie.close (tie.spec returns returns-2 wide-requires returns-3)
+cut-reach-spec = tie.close (tie.spec returns returns-2 amount-requires returns-3)

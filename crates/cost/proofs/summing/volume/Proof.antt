@@ -4,9 +4,9 @@ use Prim.Native.Nat.{ℕ, _*_, _-_, _≤_}
 use lib.ListN.{length}
 use borrow.Author.Needs.{needs}
 use Rattle.game.specs.Table.{tabulate, sum as total}
-use Rattle.cost.specs.Work.{volumeTerm, volumeBy}
+use Rattle.cost.specs.Steps.{volumeTerm, volumeBy}
 use Rattle.cost.proofs.Summed.{sum-step}
-use Rattle.cost.proofs.Totals.{sum-none}
+use Rattle.cost.proofs.Sums.{sum-none}
 use Rattle.cost.proofs.summing.volume.Statement.{statement}
 use Rattle.cost.proofs.summing.volume.Tie as tie
 

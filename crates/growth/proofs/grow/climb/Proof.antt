@@ -24,7 +24,6 @@ Inv-loop u y parents₀ jump₀ w₀ parents jump w = Turn u y parents₀ jump�
 abbrev μ-loop : tie.MeasureT-loop
 μ-loop u y parents₀ jump₀ w₀ parents jump w = y - w
 
--- src/grow.rt:21:5
 loop-holds : tie.Need-loop-holds Inv-loop μ-loop
 loop-holds c = record {
   same = refl;
@@ -33,55 +32,43 @@ loop-holds c = record {
   climbing = λ E s l e. climb-start s (c .pre .0) l e;
 }
 
--- src/grow.rt:22:18
 cast-at : tie.Need-cast-at Inv-loop μ-loop
 cast-at c = search needs
 
--- src/grow.rt:23:20
 mul-next : tie.Need-mul-next Inv-loop μ-loop
 mul-next c = search needs
 
--- src/grow.rt:23:20
 slice-read-next : tie.Need-slice-read-next Inv-loop μ-loop
 slice-read-next c = search needs
 
--- src/grow.rt:24:9
 mul-jump : tie.Need-mul-jump Inv-loop μ-loop
 mul-jump c = search needs
 
--- src/grow.rt:24:9
 slice-write-jump : tie.Need-slice-write-jump Inv-loop μ-loop
 slice-write-jump c = search needs
 
--- src/grow.rt:26:13
 mul-parents : tie.Need-mul-parents Inv-loop μ-loop
 mul-parents c = search needs
 
--- src/grow.rt:26:13
 slice-write-parents : tie.Need-slice-write-parents Inv-loop μ-loop
 slice-write-parents c = search needs
 
--- src/grow.rt:27:13
 same-length : tie.Need-same-length Inv-loop μ-loop
 same-length c = search needs
 
--- src/grow.rt:27:13
 same-length-2 : tie.Need-same-length-2 Inv-loop μ-loop
 same-length-2 c = simp length-set (omega (arith, c .before .before .before .before .pre .1 .long))
 
--- src/grow.rt:27:13
 returns : tie.Need-returns Inv-loop μ-loop
 returns c = record {
   upward = upward-set _ _ (c .before .before .loop-test .taken) (c .before .before .before .loop .inv .upward);
   climbed = λ E s l e. climb-root (c .before .before .before .loop .inv .climbing E s l e) (c .before .before .loop-test .taken) (c .if1 .taken);
 }
 
--- src/grow.rt:21:5
 loop-less : tie.Need-loop-less Inv-loop μ-loop
 loop-less c =
     omega (arith, c .before .before .loop-test .taken, upward-next (c .before .before .before .loop .w) (c .before .before .before .loop .inv .upward) (omega arith) (c .if1 .left))
 
--- src/grow.rt:21:5
 loop-again : tie.Need-loop-again Inv-loop μ-loop
 loop-again c = record {
   same = c .before .before .before .loop .inv .same;
@@ -90,15 +77,12 @@ loop-again c = record {
   climbing = λ E s l e. climb-jump (c .before .before .before .loop .inv .climbing E s l e) (c .before .before .loop-test .taken) (c .if1 .left);
 }
 
--- src/grow.rt:15:1
 same-length-3 : tie.Need-same-length-3 Inv-loop μ-loop
 same-length-3 c = search needs
 
--- src/grow.rt:15:1
 same-length-4 : tie.Need-same-length-4 Inv-loop μ-loop
 same-length-4 c = search needs
 
--- src/grow.rt:15:1
 returns-2 : tie.Need-returns-2 Inv-loop μ-loop
 returns-2 c = record {
   upward = c .before .loop .inv .upward;

@@ -1,82 +1,100 @@
-use native.Mathlib.Omega.{arith}
-use mathlib.Core.Path.{_≡_, refl, sym, subst, _∙_}
+use lib.ListN.{length-take, take, length}
+use lib.Seq.{take-length}
+use mathlib.Core.Path.{refl, sym, subst, _∙_, _≡_}
 use mathlib.Core.List.{List}
-use Prim.Native.Nat.{ℕ, _-_, _<_, _≤_}
-use native.Mathlib.Nat.{le-refl}
-use lib.ListN.{length}
 use Rattle.game.specs.Edge.{Edge}
-use Rattle.growth.specs.Growth.{Upward, Standing, Offers, Gathered}
+use Rattle.table.proofs.Filling.{Filling, filling-start, filling-turn, filling-end}
+use Rattle.growth.specs.Growth.{Upward, Standing, Offers, Gathered, Weighs}
 use Rattle.growth.proofs.Raise.{gather-start, gather-climb, gather-end}
+use Rattle.growth.proofs.Weigh.{weighs-none, weighs-room, weighs-next, filling-ahead}
+use native.Mathlib.Omega.{arith}
+use Prim.Native.Nat.{ℕ, _-_, _<_}
 use borrow.Author.Needs.{needs}
 use Rattle.growth.proofs.grow.gather.Statement.{statement}
 use Rattle.growth.proofs.grow.gather.Tie as tie
 
--- the places up to i are gathered, for whatever graph the tables stand for
-record Turn (y from to : ℕ) (lower was jumps p jump : List ℕ) (i : ℕ) : Type 0 where
-  same : length p ≡ length was
-  upward : Upward (length was) jump
-  past : from ≤ i
-  gathered : (E : List Edge) → Standing (length was) E y 0 was jumps → Offers E y from to lower → Gathered (length was) E y from i lower was p jump
+-- the first i vertices of the bucket are gathered, for whatever graph the tables stand for
+record Turn (y : ℕ) (was weights₀ before jumps bucket weights p jump : List ℕ) (i : ℕ) : Type 0 where
+  same : length p ≡ length before
+  upward : Upward (length before) jump
+  filling : Filling 0 was i bucket
+  weighed : Weighs (take i was) weights₀ weights
+  gathered : (E : List Edge) → Standing (length before) E y 0 before jumps → Offers E y was → Gathered (length before) E y i was before p jump
 
 abbrev Inv-loop : tie.InvT-loop
-Inv-loop y from to lower parents₀ jump₀ i₀ parents jump i = Turn y from to lower parents₀ jump₀ parents jump i
+Inv-loop y bucket₀ weights₀ parents₀ jump₀ i₀ bucket weights parents jump i = Turn y bucket₀ weights₀ parents₀ jump₀ bucket weights parents jump i
 
 abbrev μ-loop : tie.MeasureT-loop
-μ-loop y from to lower parents₀ jump₀ i₀ parents jump i = to - i
+μ-loop y bucket₀ weights₀ parents₀ jump₀ i₀ bucket weights parents jump i = length bucket₀ - i
 
--- src/grow.rt:33:5
 loop-holds : tie.Need-loop-holds Inv-loop μ-loop
-loop-holds c = record { same = refl; upward = c .before .before .before .pre .2; past = le-refl _; gathered = λ E s o. gather-start s }
+loop-holds c = record { same = refl; upward = c .before .before .before .before .pre .1; filling = filling-start 0 _; weighed = weighs-none _; gathered = λ E s o. gather-start s }
 
--- src/grow.rt:34:15
-mul-climb : tie.Need-mul-climb Inv-loop μ-loop
-mul-climb c = search needs
+mul-u : tie.Need-mul-u Inv-loop μ-loop
+mul-u c = search needs
 
--- src/grow.rt:34:15
-shared-slice-read-climb : tie.Need-shared-slice-read-climb Inv-loop μ-loop
-shared-slice-read-climb c = search needs
+slice-read-u : tie.Need-slice-read-u Inv-loop μ-loop
+slice-read-u c = search needs
 
--- src/grow.rt:34:9
+mul-bucket : tie.Need-mul-bucket Inv-loop μ-loop
+mul-bucket c = search needs
+
+slice-write-bucket : tie.Need-slice-write-bucket Inv-loop μ-loop
+slice-write-bucket c = search needs
+
+weigh-requires : tie.Need-weigh-requires Inv-loop μ-loop
+weigh-requires c κs =
+    let t = c .before .before .before .loop .inv in
+    λ v h. omega (arith, weighs-room (t .weighed) v (omega (arith, t .weighed .long)), c .before .before .before .before .before .before .before .before .pre .2 .light v (omega (arith, t .weighed .long)), c .before .before .loop-test .taken, t .filling .long, length-take (c .before .before .before .loop .i) (c .before .before .before .before .before .before .before .before .args .bucket .now))
+
 climb-requires : tie.Need-climb-requires Inv-loop μ-loop
 climb-requires c κs =
-    let t = c .before .before .before .before .loop .inv in
-    (omega (arith, t .same), subst (λ (m : ℕ). Upward m (c .before .before .before .before .loop .jump)) (sym (t .same)) (t .upward))
+    let t = c .before .before .before .before .before .before .before .before .loop .inv in
+    (omega (arith, t .same), subst (λ (m : ℕ). Upward m (c .before .before .before .before .before .before .before .before .loop .jump)) (sym (t .same)) (t .upward))
 
--- src/grow.rt:35:9
 add-i : tie.Need-add-i Inv-loop μ-loop
 add-i c = search needs
 
--- src/grow.rt:33:5
 loop-less : tie.Need-loop-less Inv-loop μ-loop
 loop-less c = search needs
 
--- src/grow.rt:33:5
 loop-again : tie.Need-loop-again Inv-loop μ-loop
 loop-again c =
-    let t = c .before .before .before .before .before .before .before .before .before .loop .inv in
+    let t = c .before .before .before .before .before .before .before .before .before .before .before .before .before .loop .inv in
     let k = c .before .before .before .before .climb .ensures in
-    let here : c .before .before .before .before .before .before .before .before .before .loop .i < c .before .before .before .before .before .before .before .before .before .before .before .before .before .args .to = c .before .before .before .before .before .before .before .before .loop-test .taken in
+    let here : c .before .before .before .before .before .before .before .before .before .before .before .before .before .loop .i < length (c .before .before .before .before .before .before .before .before .before .before .before .before .before .loop .bucket) = c .before .before .before .before .before .before .before .before .before .before .before .before .loop-test .taken in
+    let inside : c .before .before .before .before .before .before .before .before .before .before .before .before .before .loop .i < length (c .before .before .before .before .before .before .before .before .before .before .before .before .before .before .before .before .before .before .args .bucket .now) = omega (arith, t .filling .long) in
+    let u = filling-ahead (t .filling) here in
     record {
       same = c .before .before .before .before .climb .kept .1 .1 .0 ∙ t .same;
       upward = subst (λ (m : ℕ). Upward m (c .before .before .before .before .climb .last .1 .1 .1 .0)) (t .same) (k .upward);
-      past = omega (arith, t .past);
-      gathered = λ E s o. gather-climb (t .same) k (o .offer _ (t .past) here) (t .gathered E s o);
+      filling = filling-turn (t .filling) here;
+      weighed = weighs-next _ _ (t .weighed) inside u (c .before .before .before .before .before .before .before .before .before .weigh .ensures);
+      gathered = λ E s o. gather-climb (t .same) u k (o .offer _ inside) (t .gathered E s o);
     }
 
--- src/grow.rt:28:1
 same-length : tie.Need-same-length Inv-loop μ-loop
 same-length c = search needs
 
--- src/grow.rt:28:1
 same-length-2 : tie.Need-same-length-2 Inv-loop μ-loop
 same-length-2 c = search needs
 
--- src/grow.rt:28:1
+same-length-3 : tie.Need-same-length-3 Inv-loop μ-loop
+same-length-3 c = search needs
+
+same-length-4 : tie.Need-same-length-4 Inv-loop μ-loop
+same-length-4 c = search needs
+
 returns : tie.Need-returns Inv-loop μ-loop
-returns c = record {
-  upward = c .before .loop .inv .upward;
-  gathered = λ E s o. gather-end (c .loop-test .left) (c .before .loop .inv .gathered E s o);
-}
+returns c =
+    let t = c .before .loop .inv in
+    let done : c .before .loop .i ≡ length (c .before .before .before .before .before .before .args .bucket .now) = omega (arith, c .loop-test .left, t .filling .long, t .filling .inside) in
+    record {
+      upward = t .upward;
+      clear = filling-end (t .filling) (c .loop-test .left);
+      weighed = rw (done, take-length) at (t .weighed);
+      gathered = λ E s o. gather-end (omega (arith, done)) (t .gathered E s o);
+    }
 
 pub gather-spec : {M : Type 1} → statement M
 gather-spec =
@@ -85,12 +103,17 @@ gather-spec =
     Inv-loop
     μ-loop
     loop-holds
-    mul-climb
-    shared-slice-read-climb
+    mul-u
+    slice-read-u
+    mul-bucket
+    slice-write-bucket
+    weigh-requires
     climb-requires
     add-i
     loop-less
     loop-again
     same-length
     same-length-2
+    same-length-3
+    same-length-4
     returns)

@@ -1,7 +1,7 @@
 use mathlib.Core.Path.{sym, _∙_}
 use borrow.Author.Needs.{needs}
-use Rattle.refusal.specs.Answer.{number}
-use Rattle.partition.proofs.Refused.{accepted, divide-refused, divide-accepted}
+use Rattle.refusal.specs.Answer.{verdict}
+use Rattle.partition.proofs.Refused.{divide-known, divide-refused, divide-accepted}
 use Rattle.partition.proofs.dividing.divide.Statement.{statement}
 use Rattle.partition.proofs.dividing.divide.Tie as tie
 
@@ -21,11 +21,11 @@ same-length-4 : tie.Need-same-length-4
 same-length-4 c = search needs
 
 returns : tie.Need-returns
-unfolding number
+unfolding verdict
 returns c = divide-refused _ _ _ _ (c .before .divide-refusal .ensures) (c .if1 .taken)
 
 cut-and-pack-requires : tie.Need-cut-and-pack-requires
-cut-and-pack-requires c κs = (accepted _ _ _ _ _ (sym (c .before .before .before .before .before .divide-refusal .ensures) ∙ c .before .before .before .before .if1 .left) .net, accepted _ _ _ _ _ (sym (c .before .before .before .before .before .divide-refusal .ensures) ∙ c .before .before .before .before .if1 .left) .tables)
+cut-and-pack-requires c κs = (divide-known _ _ _ _ _ (sym (c .before .before .before .before .before .divide-refusal .ensures) ∙ c .before .before .before .before .if1 .left) .net, divide-known _ _ _ _ _ (sym (c .before .before .before .before .before .divide-refusal .ensures) ∙ c .before .before .before .before .if1 .left) .tables)
 
 same-length-5 : tie.Need-same-length-5
 same-length-5 c = search needs
@@ -40,9 +40,9 @@ same-length-8 : tie.Need-same-length-8
 same-length-8 c = search needs
 
 returns-2 : tie.Need-returns-2
-unfolding number
+unfolding verdict
 returns-2 c =
-    divide-accepted _ _ _ _ (c .before .before .before .before .before .before .before .before .before .before .before .before .before .before .divide-refusal .ensures) (c .before .before .before .before .before .before .before .before .before .before .before .before .before .if1 .left) (accepted _ _ _ _ _ (sym (c .before .before .before .before .before .before .before .before .before .before .before .before .before .before .divide-refusal .ensures) ∙ c .before .before .before .before .before .before .before .before .before .before .before .before .before .if1 .left) .blocks) (c .before .before .before .before .before .before .before .before .cut-and-pack .ensures)
+    divide-accepted _ _ _ _ (c .before .before .before .before .before .before .before .before .before .before .before .before .before .before .divide-refusal .ensures) (c .before .before .before .before .before .before .before .before .before .before .before .before .before .if1 .left) (divide-known _ _ _ _ _ (sym (c .before .before .before .before .before .before .before .before .before .before .before .before .before .before .divide-refusal .ensures) ∙ c .before .before .before .before .before .before .before .before .before .before .before .before .before .if1 .left) .blocks) (c .before .before .before .before .before .before .before .before .cut-and-pack .ensures)
 
 pub divide-spec : {M : Type 1} → statement M
 divide-spec =

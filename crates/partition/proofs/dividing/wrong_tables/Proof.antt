@@ -1,14 +1,10 @@
-use borrow.Author.Needs.{needs}
-use Rattle.partition.specs.Divide.{wrongTables}
+use Rattle.refusal.specs.Refusal.{wrongLength}
 use Rattle.partition.proofs.dividing.wrong_tables.Statement.{statement}
 use Rattle.partition.proofs.dividing.wrong_tables.Tie as tie
 
-wide-requires : tie.Need-wide-requires
-wide-requires c κs = search needs
-
 returns : tie.Need-returns
-unfolding wrongTables
-returns c = simp (c .wide .ensures)
+unfolding wrongLength
+returns c = mathlib.Core.Path.refl
 
 pub wrong-tables-spec : {M : Type 1} → statement M
-wrong-tables-spec = tie.close (tie.spec wide-requires returns)
+wrong-tables-spec = tie.close (tie.spec returns)

@@ -13,18 +13,18 @@ use Rattle.reach.proofs.overlap.visit.Statement.{statement}
 use Rattle.reach.proofs.overlap.visit.Tie as tie
 
 abbrev Inv-loop : tie.InvT-loop
-Inv-loop weights ends first slots overlaps₀ ancestor₀ previous₀ k₀ u₀ stop₀ overlaps ancestor previous k u stop =
+Inv-loop counts ends first slots overlaps₀ ancestor₀ previous₀ k₀ u₀ stop₀ overlaps ancestor previous k u stop =
     (k ≤ length slots) × (length ancestor ≡ length ancestor₀) × (length previous ≡ length previous₀) × (length overlaps ≡ length overlaps₀)
-    × ((p : List ℕ) (es : List Edge) (filed stops : List ℕ) → Slotted p weights es filed stops ends first slots → Empty p ends ancestor₀ previous₀ overlaps₀
-    → Counting p weights es filed stops ends first slots ancestor previous overlaps k u stop)
+    × ((p : List ℕ) (es : List Edge) (filed stops : List ℕ) → Slotted p counts es filed stops ends first slots → Empty p ends ancestor₀ previous₀ overlaps₀
+    → Counting p counts es filed stops ends first slots ancestor previous overlaps k u stop)
 
 abbrev μ-loop : tie.MeasureT-loop
-μ-loop weights ends first slots overlaps₀ ancestor₀ previous₀ k₀ u₀ stop₀ overlaps ancestor previous k u stop = length slots - k
+μ-loop counts ends first slots overlaps₀ ancestor₀ previous₀ k₀ u₀ stop₀ overlaps ancestor previous k u stop = length slots - k
 
 -- the edge in slot k, whichever way its ends were read
 slot : (c : tie.Joined1 Inv-loop μ-loop) {p filed stops : List ℕ} {es : List Edge}
-    → Counting p (c .before .before .before .before .before .before .before .before .before .before .before .args .weights .now) es filed stops (c .before .before .before .before .before .before .before .before .before .before .before .args .ends .now) (c .before .before .before .before .before .before .before .before .before .before .before .args .first .now) (c .before .before .before .before .before .before .before .before .before .before .before .args .slots .now) (c .before .before .before .loop .ancestor) (c .before .before .before .loop .previous) (c .before .before .before .loop .overlaps) (c .before .before .before .loop .k) (c .before .before .before .loop .u) (c .before .before .before .loop .stop)
-    → Slot (c .before .before .before .before .before .before .before .before .before .before .before .args .weights .now) stops filed (c .before .before .before .loop .k) (c .if1 .u) (c .if1 .y) (c .if1 .stop)
+    → Counting p (c .before .before .before .before .before .before .before .before .before .before .before .args .counts .now) es filed stops (c .before .before .before .before .before .before .before .before .before .before .before .args .ends .now) (c .before .before .before .before .before .before .before .before .before .before .before .args .first .now) (c .before .before .before .before .before .before .before .before .before .before .before .args .slots .now) (c .before .before .before .loop .ancestor) (c .before .before .before .loop .previous) (c .before .before .before .loop .overlaps) (c .before .before .before .loop .k) (c .before .before .before .loop .u) (c .before .before .before .loop .stop)
+    → Slot (c .before .before .before .before .before .before .before .before .before .before .before .args .counts .now) stops filed (c .before .before .before .loop .k) (c .if1 .u) (c .if1 .y) (c .if1 .stop)
 slot c d =
     let l = d .slotted .layout in
     let m = d .slotted .marked in

@@ -2,9 +2,8 @@ use native.Mathlib.Omega.{arith}
 use mathlib.Core.Path.{sym, _∙_}
 use borrow.Author.Needs.{needs}
 use Rattle.refusal.proofs.First.{pass, stop, first-pass, first-stop, first-end, good-count}
-use Rattle.forest.proofs.Tests.{damage}
+use Rattle.growth.proofs.Tests.{damage}
 use Rattle.report.specs.Report.{earlyRefusal}
-use Rattle.report.proofs.Refused.{many-edges, few-edges}
 use Rattle.report.proofs.reporting.early_refusal.Statement.{statement}
 use Rattle.report.proofs.reporting.early_refusal.Tie as tie
 
@@ -48,59 +47,46 @@ returns-4 c =
     (pass _ _ (sym (c .before .before .before .before .before .before .before .bad-count .ensures) ∙ c .before .before .before .before .before .before .if1 .left)
     ∙ pass _ _ (c .before .before .before .before .before .if2 .left)
     ∙ pass _ _ (sym (c .before .before .before .before .bad-limits .ensures) ∙ c .before .before .before .if3 .left)
-    ∙ stop _ _ (damage _ (c .before .before .of .ensures .1) (sym (c .before .is-damaged .ensures) ∙ c .if4 .taken)))
+    ∙ stop _ _ (damage _ (c .before .before .of .ensures) (sym (c .before .is-damaged .ensures) ∙ c .if4 .taken)))
 
-list-fault-requires : tie.Need-list-fault-requires
-list-fault-requires c κs = search needs
+list-refusal-requires : tie.Need-list-refusal-requires
+list-refusal-requires c κs = search needs
 
 returns-5 : tie.Need-returns-5
 unfolding earlyRefusal
 returns-5 c =
-    c .before .list-fault .ensures
+    c .before .list-refusal .ensures
     ∙ sym
     (pass _ _ (sym (c .before .before .before .before .before .before .before .before .before .bad-count .ensures) ∙ c .before .before .before .before .before .before .before .before .if1 .left)
     ∙ pass _ _ (c .before .before .before .before .before .before .before .if2 .left)
     ∙ pass _ _ (sym (c .before .before .before .before .before .before .bad-limits .ensures) ∙ c .before .before .before .before .before .if3 .left)
-    ∙ pass _ _ (damage _ (c .before .before .before .before .of .ensures .1) (sym (c .before .before .before .is-damaged .ensures) ∙ c .before .before .if4 .left))
-    ∙ first-stop _ _ (λ z. c .if5 .taken (c .before .list-fault .ensures ∙ z)))
+    ∙ pass _ _ (damage _ (c .before .before .before .before .of .ensures) (sym (c .before .before .before .is-damaged .ensures) ∙ c .before .before .if4 .left))
+    ∙ first-stop _ _ (λ z. c .if5 .taken (c .before .list-refusal .ensures ∙ z)))
+
+too-heavy-requires : tie.Need-too-heavy-requires
+too-heavy-requires c κs = search needs
 
 returns-6 : tie.Need-returns-6
 unfolding earlyRefusal
 returns-6 c =
     sym
-    (pass _ _ (sym (c .before .before .before .before .before .before .before .before .before .before .bad-count .ensures) ∙ c .before .before .before .before .before .before .before .before .before .if1 .left)
-    ∙ pass _ _ (c .before .before .before .before .before .before .before .before .if2 .left)
-    ∙ pass _ _ (sym (c .before .before .before .before .before .before .before .bad-limits .ensures) ∙ c .before .before .before .before .before .before .if3 .left)
-    ∙ pass _ _ (damage _ (c .before .before .before .before .before .of .ensures .1) (sym (c .before .before .before .before .is-damaged .ensures) ∙ c .before .before .before .if4 .left))
-    ∙ first-pass _ _ (sym (c .before .before .list-fault .ensures) ∙ c .before .if5 .left)
-    ∙ stop _ _ (many-edges (c .before .before .before .before .before .before .before .before .before .before .before .before .before .before .args .edges .now) (c .if6 .taken)))
-
-too-heavy-requires : tie.Need-too-heavy-requires
-too-heavy-requires c κs = search needs
+    (pass _ _ (sym (c .before .before .before .before .before .before .before .before .before .before .before .bad-count .ensures) ∙ c .before .before .before .before .before .before .before .before .before .before .if1 .left)
+    ∙ pass _ _ (c .before .before .before .before .before .before .before .before .before .if2 .left)
+    ∙ pass _ _ (sym (c .before .before .before .before .before .before .before .before .bad-limits .ensures) ∙ c .before .before .before .before .before .before .before .if3 .left)
+    ∙ pass _ _ (damage _ (c .before .before .before .before .before .before .of .ensures) (sym (c .before .before .before .before .before .is-damaged .ensures) ∙ c .before .before .before .before .if4 .left))
+    ∙ first-pass _ _ (sym (c .before .before .before .list-refusal .ensures) ∙ c .before .before .if5 .left)
+    ∙ stop _ _ (sym (c .before .too-heavy .ensures) ∙ c .if6 .taken))
 
 returns-7 : tie.Need-returns-7
 unfolding earlyRefusal
 returns-7 c =
     sym
-    (pass _ _ (sym (c .before .before .before .before .before .before .before .before .before .before .before .before .bad-count .ensures) ∙ c .before .before .before .before .before .before .before .before .before .before .before .if1 .left)
-    ∙ pass _ _ (c .before .before .before .before .before .before .before .before .before .before .if2 .left)
-    ∙ pass _ _ (sym (c .before .before .before .before .before .before .before .before .before .bad-limits .ensures) ∙ c .before .before .before .before .before .before .before .before .if3 .left)
-    ∙ pass _ _ (damage _ (c .before .before .before .before .before .before .before .of .ensures .1) (sym (c .before .before .before .before .before .before .is-damaged .ensures) ∙ c .before .before .before .before .before .if4 .left))
-    ∙ first-pass _ _ (sym (c .before .before .before .before .list-fault .ensures) ∙ c .before .before .before .if5 .left)
-    ∙ pass _ _ (few-edges (c .before .before .before .before .before .before .before .before .before .before .before .before .before .before .before .before .args .edges .now) (c .before .before .if6 .left))
-    ∙ stop _ _ (sym (c .before .too-heavy .ensures) ∙ c .if7 .taken))
-
-returns-8 : tie.Need-returns-8
-unfolding earlyRefusal
-returns-8 c =
-    sym
-    (pass _ _ (sym (c .before .before .before .before .before .before .before .before .before .before .before .before .bad-count .ensures) ∙ c .before .before .before .before .before .before .before .before .before .before .before .if1 .left)
-    ∙ pass _ _ (c .before .before .before .before .before .before .before .before .before .before .if2 .left)
-    ∙ pass _ _ (sym (c .before .before .before .before .before .before .before .before .before .bad-limits .ensures) ∙ c .before .before .before .before .before .before .before .before .if3 .left)
-    ∙ pass _ _ (damage _ (c .before .before .before .before .before .before .before .of .ensures .1) (sym (c .before .before .before .before .before .before .is-damaged .ensures) ∙ c .before .before .before .before .before .if4 .left))
-    ∙ first-pass _ _ (sym (c .before .before .before .before .list-fault .ensures) ∙ c .before .before .before .if5 .left)
-    ∙ pass _ _ (few-edges (c .before .before .before .before .before .before .before .before .before .before .before .before .before .before .before .before .args .edges .now) (c .before .before .if6 .left))
-    ∙ pass _ _ (sym (c .before .too-heavy .ensures) ∙ c .if7 .left)
+    (pass _ _ (sym (c .before .before .before .before .before .before .before .before .before .before .before .bad-count .ensures) ∙ c .before .before .before .before .before .before .before .before .before .before .if1 .left)
+    ∙ pass _ _ (c .before .before .before .before .before .before .before .before .before .if2 .left)
+    ∙ pass _ _ (sym (c .before .before .before .before .before .before .before .before .bad-limits .ensures) ∙ c .before .before .before .before .before .before .before .if3 .left)
+    ∙ pass _ _ (damage _ (c .before .before .before .before .before .before .of .ensures) (sym (c .before .before .before .before .before .is-damaged .ensures) ∙ c .before .before .before .before .if4 .left))
+    ∙ first-pass _ _ (sym (c .before .before .before .list-refusal .ensures) ∙ c .before .before .if5 .left)
+    ∙ pass _ _ (sym (c .before .too-heavy .ensures) ∙ c .if6 .left)
     ∙ first-end)
 
 pub early-refusal-spec : {M : Type 1} → statement M
@@ -115,9 +101,8 @@ early-refusal-spec =
     of-requires
     is-damaged-requires
     returns-4
-    list-fault-requires
+    list-refusal-requires
     returns-5
-    returns-6
     too-heavy-requires
-    returns-7
-    returns-8)
+    returns-6
+    returns-7)

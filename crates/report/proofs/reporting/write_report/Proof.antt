@@ -1,6 +1,6 @@
 use native.Mathlib.Omega.{arith}
 use borrow.Author.Needs.{needs}
-use Rattle.report.specs.Answer.{reply}
+use Rattle.report.specs.Answer.{verdict}
 use Rattle.report.proofs.Written.{block-faultless, block-countable, top-long, reach-long, all-answered}
 use mathlib.Core.Path.{_∙_}
 use Rattle.report.proofs.reporting.write_report.Statement.{statement}
@@ -49,7 +49,7 @@ same-length-9 : tie.Need-same-length-9
 same-length-9 c = search needs
 
 returns : tie.Need-returns
-unfolding reply
+unfolding verdict
 returns c = all-answered (c .before .before .before .before .before .before .before .before .before .before .before .before .before .before .before .before .before .before .before .before .before .before .before .before .before .before .before .before .before .before .before .before .before .before .before .before .before .before .before .before .before .before .before .before .before .before .before .before .before .before .before .before .before .before .before .pre .0) (c .before .before .before .before .before .before .before .before .before .before .before .before .before .before .before .before .before .before .before .before .before .before .before .before .before .before .before .before .before .before .before .before .before .before .before .divide-and-reach .ensures) (c .before .before .before .before .before .before .before .before .before .before .before .before .before .before .before .before .before .before .write-edge-blocks .ensures) (c .before .before .before .before .before .before .before .before .before .before .before .write-block-counts .ensures) (c .before .before .bound .ensures) (c .volume .ensures)
 
 pub write-report-spec : {M : Type 1} → statement M

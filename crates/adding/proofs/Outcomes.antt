@@ -1,0 +1,42 @@
+-- What an accepted addition leaves is what its definition says, from what its steps promise.
+-- Assumes nothing.
+use mathlib.Core.Path.{_≡_, ap, ap₂, _∙_}
+use mathlib.Core.Bool.{false}
+use mathlib.Core.List.{List, zipWith}
+use Prim.Native.Nat.{ℕ, _+_}
+use native.Mathlib.Omega.{arith}
+use Rattle.game.specs.Edge.{edges}
+use Rattle.game.specs.Net.{net, weights}
+use Rattle.game.proofs.Weights.{charges-count}
+use Rattle.game.proofs.Sound.{true-sound}
+use Rattle.game.proofs.Tables.{sum-entry}
+use Rattle.bucket.specs.Ends.{tallied}
+use Rattle.bucket.proofs.Tallied.{tally-weights}
+use Rattle.growth.specs.Work.{growing, workOf, cleared}
+use Rattle.adding.specs.Add.{grown}
+use Rattle.growth.specs.Putting.{Extendable, Weighable, Extends}
+use Rattle.adding.proofs.Accepted.{Addable}
+
+module _ {p w e j l : List ℕ} {xs : List ℕ} (a : Addable (growing (net p w) (workOf e j l)) xs) where
+  pub add-extendable : Extendable p xs e j l
+  add-extendable = record {
+    table = record { few = a .net .few; sound = true-sound (a .net .sound) };
+    faultless = a .faultless;
+    long = a .work .ends;
+    long-jump = a .work .jump;
+    room = omega (arith, a .work .lower);
+    small = omega (arith, a .work .lower, a .net .few, a .light, charges-count (edges xs));
+  }
+
+  -- no weight overflows: an entry is at most the total
+  pub add-weighable : Weighable p w l
+  add-weighable = record {
+    long = a .net .long;
+    light = record { light = λ v h. omega (arith, sum-entry w v, a .light, a .work .lower, a .net .few, charges-count (edges xs)) };
+  }
+
+  pub add-ends : {w′ p′ e′ j′ l′ : List ℕ} → Extends p xs e j l p′ e′ j′ l′ × (w′ ≡ tallied false (edges xs) w) → growing (net p′ w′) (workOf e′ j′ l′) ≡ growing (grown (net p w) (edges xs)) (cleared (workOf e j l))
+  unfolding grown
+  add-ends (x, t) = ap₂ growing
+      (ap₂ net (x .grown) (t ∙ tally-weights (edges xs) w ∙ ap (λ (n : ℕ). zipWith _+_ w (weights n (edges xs))) (a .net .long)))
+      (x .clear)

@@ -1,0 +1,39 @@
+-- "Add a tie list, as a whole or not at all." "Parents become those of the elimination game on the old links together with the new
+-- ties .. Only ties raise loads in adding". The old net is any sound table, whether it came from edges or not.
+-- Assumes nothing.
+use mathlib.Core.List.{List, [], _∷_, _++_, zipWith}
+use Prim.Native.Nat.{ℕ, _+_}
+use lib.Dec.{ltb}
+use lib.ListN.{length}
+use Rattle.game.specs.Edge.{Edge, edges}
+use Rattle.game.specs.Game.{forest}
+use Rattle.game.specs.Tree.{links}
+use Rattle.game.specs.Net.{Net, weights, total, charges}
+use Rattle.refusal.specs.Limits.{maxTotal}
+use Rattle.refusal.specs.Refusal.{given, first, badCount, wrongLength, odd, firstFault}
+use Rattle.refusal.specs.Outcome.{Done, done}
+use Rattle.net.specs.Damage.{damaged}
+use Rattle.growth.specs.Work.{Growing, badWork, cleared}
+
+-- a net with edges added
+unfoldable pub grown : Net → List Edge → Net
+grown net es = record {
+  parents = forest (length (net .parents)) (links (net .parents) ++ es);
+  weights = zipWith _+_ (net .weights) (weights (length (net .parents)) es);
+}
+
+unfoldable pub addRefusal : Growing → List ℕ → ℕ
+addRefusal g xs =
+    let n : ℕ = length (g .net .parents) in
+    first
+    (given (badCount n) 1
+    ∷ given (wrongLength (length (g .net .weights)) n) 2
+    ∷ given (odd xs) 2
+    ∷ given (badWork n (n + length (edges xs)) (g .work)) 2
+    ∷ given (damaged (g .net)) 30
+    ∷ firstFault n (edges xs)
+    ∷ given (ltb maxTotal (total (g .net) + charges (edges xs))) 20
+    ∷ [])
+
+unfoldable pub addOutcome : Growing → List ℕ → Done Growing
+addOutcome g xs = done (addRefusal g xs) g (record { net = grown (g .net) (edges xs); work = cleared (g .work) })

@@ -1,0 +1,2 @@
+-- The call Add: what it is refused for, and what it leaves.
+pub mod Add

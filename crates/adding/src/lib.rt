@@ -1,0 +1,4 @@
+// Adding edges to a net.
+mod adding;
+
+pub use adding::add;

@@ -1,0 +1,91 @@
+-- What the counting of figures promises, step by step. No public promise speaks of it.
+-- Assumes nothing.
+use mathlib.Core.Path.{_≡_}
+use mathlib.Core.Bool.{cond}
+use mathlib.Core.List.{List, [], _∷_, _++_, map}
+use Prim.Native.Nat.{ℕ, zero, suc, _+_, _-_, _≤_, _<_}
+use lib.Dec.{eqb}
+use lib.ListN.{length, getD, replicate}
+use Rattle.game.specs.Table.{tabulate, sum, member}
+use Rattle.game.specs.Edge.{edges}
+use Rattle.game.specs.Net.{reach, weights as weightsOf}
+use Rattle.refusal.specs.Limits.{maxVertices, maxEdges}
+use Rattle.refusal.specs.Refusal.{firstFault}
+use Rattle.bucket.specs.Filed.{begin, bucketOf}
+use Rattle.packing.specs.Pack.{maxBlocks}
+use Rattle.cost.specs.Figures.{different, blockCount, isCut}
+
+-- the block of a vertex that has a weight, that is, a higher neighbour
+unfoldable pub ownBlock : ℕ → ℕ → List ℕ
+ownBlock zero b = []
+ownBlock (suc w) b = b ∷ []
+
+-- the blocks that a vertex meets: its own, if it has a weight, and those of its lower neighbours
+unfoldable pub metBlocks : List ℕ → ℕ → ℕ → List ℕ → List ℕ
+metBlocks block y weight lower = ownBlock weight (getD block y 0) ++ map (λ (u : ℕ). getD block u 0) lower
+
+-- no block has the stamp yet
+pub record Fresh (stamps : List ℕ) (stamp : ℕ) : Type 0 where
+  pub older : (j : ℕ) → getD stamps j 0 < stamp
+
+-- the blocks of a list, and no others, have the stamp, and r is how many they are
+pub record Stamped (stamps : List ℕ) (stamp : ℕ) (bs : List ℕ) (r : ℕ) : Type 0 where
+  pub known : (j : ℕ) → getD stamps j 0 ≤ stamp
+  pub each : (j : ℕ) → j < length stamps → eqb (getD stamps j 0) stamp ≡ member j bs
+  pub counted : r ≡ different (length stamps) bs
+
+-- what counting at y is given: its lower neighbours, the block of each vertex, and a stamp for each block, all of them older
+pub record Meets (y : ℕ) (lower block stamps : List ℕ) : Type 0 where
+  pub inside : y < length block
+  pub few : length block ≤ maxVertices
+  pub neighbours : (i : ℕ) → i < length lower → getD lower i 0 < length block
+  pub blocks : (x : ℕ) → x < length block → getD block x 0 < length stamps
+  pub small : length stamps ≤ maxBlocks
+  pub fresh : Fresh stamps (y + 1)
+
+-- What counting is given: buckets of lower neighbours, the weight and the block of each vertex, and a stamp for each block.
+pub record Bucketed (ends lower weights block blockCount stamps : List ℕ) : Type 0 where
+  pub few : length ends ≤ maxVertices
+  pub rising : (y : ℕ) → y < length ends → begin ends y ≤ getD ends y 0
+  pub room : (y : ℕ) → y < length ends → getD ends y 0 ≤ length lower
+  pub neighbours : (y i : ℕ) → y < length ends → i < getD ends y 0 → getD lower i 0 < length ends
+  pub weighed : length weights ≡ length ends
+  pub blocked : length block ≡ length ends
+  pub table : length blockCount ≡ length ends
+  pub blocks : (x : ℕ) → x < length ends → getD block x 0 < length stamps
+  pub small : length stamps ≤ maxBlocks
+  pub fresh : Fresh stamps 1
+
+-- the block count of y, by its bucket
+unfoldable pub countIn : List ℕ → List ℕ → List ℕ → List ℕ → ℕ → ℕ → ℕ
+countIn ends lower weights block k y = different k (metBlocks block y (getD weights y 0) (bucketOf ends lower y))
+
+-- What writing the block counts is given: the edges of a net, its weights, a block for each vertex, and tables that fit.
+pub record Countable (xs weights block blockCount ends lower : List ℕ) : Type 0 where
+  pub few : length block ≤ maxVertices
+  pub faultless : firstFault (length block) (edges xs) ≡ 0
+  pub weighed : weights ≡ weightsOf (length block) (edges xs)
+  pub blocks : (x : ℕ) → x < length block → getD block x 0 < maxBlocks
+  pub table : length blockCount ≡ length block
+  pub ends-fit : length ends ≡ length block
+  pub lower-fits : length lower ≡ length block + length (edges xs)
+  pub small : length (edges xs) ≤ maxEdges
+
+-- what it leaves
+pub record CountedBlocks (xs block ends lower blockCount′ ends′ lower′ : List ℕ) : Type 0 where
+  pub counts : blockCount′ ≡ tabulate (length block) (blockCount maxBlocks block (edges xs))
+  pub clear-ends : ends′ ≡ replicate (length ends) 0
+  pub clear-lower : lower′ ≡ replicate (length lower) 0
+
+-- the bound and the volume, by the tables of a report: what each vertex adds, and the sums
+unfoldable pub boundTerm : List ℕ → List ℕ → List ℕ → ℕ → ℕ
+boundTerm p top reach x = cond (isCut p top x) (getD reach x 0) 0
+
+unfoldable pub boundBy : List ℕ → List ℕ → List ℕ → ℕ
+boundBy p top reach = sum (tabulate (length p) (boundTerm p top reach))
+
+unfoldable pub volumeTerm : List ℕ → ℕ → ℕ
+volumeTerm blockCount x = getD blockCount x 0 - 1
+
+unfoldable pub volumeBy : List ℕ → ℕ
+volumeBy blockCount = sum (tabulate (length blockCount) (volumeTerm blockCount))

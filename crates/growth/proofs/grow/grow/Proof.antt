@@ -1,0 +1,64 @@
+use mathlib.Core.Path.{refl, ap, _∙_}
+use Prim.Native.Nat.{ℕ}
+use lib.ListN.{replicate}
+use Rattle.game.specs.Game.{absent}
+use Rattle.growth.proofs.Rooms.{same-room}
+use Rattle.growth.proofs.Weigh.{filling-front, weighs-graph}
+use native.Mathlib.Omega.{arith}
+use borrow.Author.Needs.{needs}
+use Rattle.growth.proofs.grow.grow.Statement.{statement}
+use Rattle.growth.proofs.grow.grow.Tie as tie
+
+fill-requires : tie.Need-fill-requires
+fill-requires c κs = search needs
+
+raise-requires : tie.Need-raise-requires
+raise-requires c κs = record {
+  blank = c .before .before .before .before .before .before .before .before .before .before .before .before .before .before .pre .blank;
+  blank-jump = c .before .before .before .before .before .before .before .fill .ensures ∙ ap (λ (n : ℕ). replicate n absent) (c .before .before .before .before .before .before .before .before .before .before .before .before .before .before .pre .long-jump);
+  buckets = c .before .before .before .before .before .before .before .before .before .before .before .before .before .before .pre .buckets;
+  light = c .before .before .before .before .before .before .before .before .before .before .before .before .before .before .pre .light;
+}
+
+clear-requires : tie.Need-clear-requires
+clear-requires c κs =
+    let r = c .before .before .before .before .before .before .before .before .before .before .before .raise .ensures .clear in
+    (omega (arith, r .inside, r .long), filling-front r)
+
+same-length : tie.Need-same-length
+same-length c = search needs
+
+same-length-2 : tie.Need-same-length-2
+same-length-2 c = search needs
+
+same-length-3 : tie.Need-same-length-3
+same-length-3 c = search needs
+
+same-length-4 : tie.Need-same-length-4
+same-length-4 c = search needs
+
+same-length-5 : tie.Need-same-length-5
+same-length-5 c = search needs
+
+returns : tie.Need-returns
+returns c =
+    let r = c .before .before .before .before .before .before .before .before .before .before .before .before .before .before .before .before .before .before .raise .ensures in
+    record {
+      grown = r .raised;
+      weighed = λ E f. weighs-graph f (r .last) (r .weighed);
+      clear = c .before .before .before .before .before .before .clear .ensures ∙ same-room _ _ _ _ _ _ refl (c .before .before .before .before .before .before .before .before .before .before .before .before .before .before .before .before .before .before .raise .kept .1 .1 .1 .1 .0 ∙ c .before .before .before .before .before .before .before .before .before .before .before .before .before .before .before .before .before .before .before .before .before .before .before .before .before .before .fill .kept .0) (c .before .before .before .before .before .before .before .before .before .before .before .before .before .before .before .before .before .before .raise .kept .1 .0);
+    }
+
+pub grow-spec : {M : Type 1} → statement M
+grow-spec =
+    tie.close
+    (tie.spec
+    fill-requires
+    raise-requires
+    clear-requires
+    same-length
+    same-length-2
+    same-length-3
+    same-length-4
+    same-length-5
+    returns)

@@ -1,0 +1,38 @@
+-- What the calls leave is sound: after an accepted start, add, join or read no call refuses the net with 30.
+-- Of two nets that are joined the other has to be sound too: it is where a call left it.
+-- Assumes nothing.
+use mathlib.Core.Path.{_≡_}
+use mathlib.Core.List.{List}
+use mathlib.Core.Option.{Option, none, some}
+use Prim.Native.Nat.{ℕ}
+use Rattle.game.specs.Net.{Net}
+use Rattle.refusal.specs.Verdict.{refused}
+use Rattle.growth.specs.Work.{Work, Growing, growing}
+use Rattle.adding.specs.Add.{addOutcome}
+use Rattle.joining.specs.Join.{joinOutcome}
+use Rattle.forest.specs.Promise.{Valid}
+use Rattle.linkfile.specs.LinkFile.{saveOutcome}
+use Rattle.partition.specs.Divide.{Tables, divideOutcome}
+use Rattle.report.specs.Report.{Lent, reportOutcome}
+use Rattle.history.specs.World.{Call, start, add, join, save, read, relabel, divide, report}
+
+-- the net that a call writes when it is accepted
+unfoldable pub written : Call → Option ℕ
+written (start i) = some i
+written (add i xs work) = some i
+written (join i j different work) = some i
+written (save i f) = none
+written (read i f) = some i
+written (relabel order xs tables) = none
+written (divide i B k tables) = none
+written (report i B k xs tables) = none
+
+-- whatever else a call is lent
+pub record Never30 (of : Net) : Type 0 where
+  pub valid : Valid of
+  pub add : (work : Work) (xs : List ℕ) → addOutcome (growing of work) xs .verdict ≡ refused 30 → ⊥
+  pub join : (work : Work) (other : Net) → Valid other → joinOutcome (growing of work) other .verdict ≡ refused 30 → ⊥
+  pub joined : (g : Growing) → Valid (g .net) → joinOutcome g of .verdict ≡ refused 30 → ⊥
+  pub save : (bytes : List ℕ) → saveOutcome of bytes .verdict ≡ refused 30 → ⊥
+  pub divide : (B k : ℕ) (tables : Tables) → divideOutcome of B k tables .verdict ≡ refused 30 → ⊥
+  pub report : (B k : ℕ) (xs : List ℕ) (tables : Lent) → reportOutcome of B k xs tables .verdict ≡ refused 30 → ⊥

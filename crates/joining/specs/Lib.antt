@@ -1,0 +1,2 @@
+-- The call Join: what it is refused for, and what it leaves.
+pub mod Join

@@ -1,0 +1,107 @@
+// Joining a second net into a first.
+use net::Net;
+use refusal::Answer;
+ghost use mathlib.Core.Path.{_≡_};
+ghost use mathlib.Core.List.{zipWith};
+ghost use Prim.Native.Nat.{_+_, _^_, _<_};
+ghost use lib.ListN.{length};
+ghost use Rattle.game.specs.Net.{net};
+ghost use Rattle.growth.specs.Work.{growing, workOf};
+ghost use Rattle.game.specs.Table.{sum};
+ghost use Rattle.refusal.specs.Answer.{verdict};
+ghost use Rattle.refusal.specs.Outcome.{ended};
+ghost use Rattle.joining.specs.Join.{joinRefusal, joinOutcome};
+
+// The number for which joining is refused, or 0.
+fn join_refusal(
+    parents: &[u32],
+    weights: &[u32],
+    other_parents: &[u32],
+    other_weights: &[u32],
+    ends: &[u32],
+    jump: &[u32],
+    lower: &[u32],
+) -> u32
+    ensures { λ r. ⌜
+        r ≡ joinRefusal (growing (net (now (parents .entry)) (now (weights .entry))) (workOf (now (ends .entry)) (now (jump .entry)) (now (lower .entry))))
+        (net (now («other_parents» .entry)) (now («other_weights» .entry))) ⌝ }
+{
+    let n = parents.len();
+    let m = other_parents.len();
+    if refusal::bad_count(n) {
+        return 1;
+    }
+    if refusal::bad_count(m) {
+        return 1;
+    }
+    if weights.len() != n {
+        return 2;
+    }
+    if other_weights.len() != m {
+        return 2;
+    }
+    if growth::bad_work(n, n + m, ends.len(), jump.len(), lower.len()) {
+        return 2;
+    }
+    if m != n {
+        return 21;
+    }
+    let one = Net::of(weights);
+    if one.is_damaged(parents) {
+        return 30;
+    }
+    let other = Net::of(other_weights);
+    if other.is_damaged(other_parents) {
+        return 30;
+    }
+    if Net::MAX_TOTAL < one.total + other.total {
+        return 20;
+    }
+    0
+}
+
+// Adds each entry of a second table to a first.
+fn add_table(table: &mut [u32], other: &[u32])
+    requires { ⌜ (length (now table) ≡ length (now other)) × (sum (now table) + sum (now other) < 2 ^ 32) ⌝ }
+    ensures { λ _. ⌜ now (table .exit) ≡ zipWith _+_ (now (table .entry)) (now (other .entry)) ⌝ }
+{
+    let mut i = 0;
+    while i < other.len() {
+        table[i] += other[i];
+        i += 1;
+    }
+}
+
+// Joins a second net into a first: the parents become those of the elimination game on the links of both, and the weights are
+// summed. The work tables take n, n and 2 n entries; they end as zeros.
+pub fn join(
+    parents: &mut [u32],
+    weights: &mut [u32],
+    other_parents: &[u32],
+    other_weights: &[u32],
+    ends: &mut [u32],
+    jump: &mut [u32],
+    lower: &mut [u32],
+) -> Answer
+    ensures { λ r. ⌜
+        ended (verdict r) (growing (net (now (parents .exit)) (now (weights .exit))) (workOf (now (ends .exit)) (now (jump .exit)) (now (lower .exit))))
+        ≡ joinOutcome (growing (net (now (parents .entry)) (now (weights .entry))) (workOf (now (ends .entry)) (now (jump .entry)) (now (lower .entry))))
+        (net (now («other_parents» .entry)) (now («other_weights» .entry))) ⌝ }
+{
+    let code = join_refusal(
+        parents,
+        weights,
+        other_parents,
+        other_weights,
+        ends,
+        jump,
+        lower,
+    );
+    if code != 0 {
+        return Answer::Refused(code);
+    }
+    add_table(weights, other_weights);
+    bucket::file_links(parents, other_parents, ends, lower);
+    growth::regrow(parents, ends, jump, lower);
+    Answer::Accepted
+}

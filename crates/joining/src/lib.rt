@@ -1,0 +1,4 @@
+// Joining a second net into a first.
+mod joining;
+
+pub use joining::join;

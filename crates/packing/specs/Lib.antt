@@ -1,0 +1,3 @@
+-- How groups are packed into blocks.
+pub mod Pack
+pub mod Steps

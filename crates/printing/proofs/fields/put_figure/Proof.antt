@@ -1,0 +1,16 @@
+use borrow.Author.Needs.{needs}
+use Rattle.printing.proofs.fields.put_figure.Statement.{statement}
+use Rattle.printing.proofs.fields.put_figure.Tie as tie
+use Rattle.printing.proofs.Pieces.{figure-room, put-figure}
+
+put-field-requires : tie.Need-put-field-requires
+put-field-requires c κs = figure-room (c .before .before .fits .x .fits) _ _ (c .before .before .pre)
+
+same-length : tie.Need-same-length
+same-length c = search needs
+
+returns : tie.Need-returns
+returns c = put-figure (c .before .before .before .before .before .fits .x .fits) _ (c .before .before .put-field .ensures)
+
+pub put-figure-spec : {M : Type 1} → statement M
+put-figure-spec = tie.close (tie.spec put-field-requires same-length returns)

@@ -1,0 +1,40 @@
+-- What the steps of printing promise each other. No public promise speaks of it: a run's is on its text alone.
+-- Assumes nothing.
+use mathlib.Core.Path.{_≡_}
+use mathlib.Core.List.{List, _++_}
+use Prim.Native.Nat.{ℕ, _+_, _*_, _≤_}
+use lib.ListN.{length}
+use Rattle.refusal.specs.Limits.{maxVertices}
+use Rattle.refusal.specs.Verdict.{Verdict, accepted, refused}
+use Rattle.cost.specs.declared.Totals.{Totals}
+use Rattle.printing.specs.Lines.{refusedText, totalsText}
+
+-- the room of a number of 32 bits, ten digits at most, and of the byte behind it
+abbrev pub entryRoom : ℕ
+entryRoom = 11
+
+-- the same of a number of 64 bits, twenty digits at most
+abbrev pub figureRoom : ℕ
+figureRoom = 21
+
+-- the room of a line, and of the last one: two words and two numbers
+abbrev pub lineRoom : ℕ
+lineRoom = 8 * entryRoom
+
+abbrev pub totalsRoom : ℕ
+totalsRoom = 13 + 2 * figureRoom
+
+-- the columns of the printed table, as long as the order
+pub record Columns (order p w r t b c : List ℕ) : Type 0 where
+  pub few : length order ≤ maxVertices
+  pub parents : length p ≡ length order
+  pub weights : length w ≡ length order
+  pub reach : length r ≡ length order
+  pub top : length t ≡ length order
+  pub block : length b ≡ length order
+  pub block-count : length c ≡ length order
+
+-- what is printed of a report's answer, behind the lines of the ranks if it is accepted
+unfoldable pub answerText : Verdict Totals → List ℕ → List ℕ
+answerText (accepted totals) lines = lines ++ totalsText totals
+answerText (refused k) lines = refusedText k

@@ -1,0 +1,16 @@
+// The text of a run, from a report's answer and its tables, or from the number of a refusal.
+mod fields;
+mod lines;
+
+pub use lines::put_answer;
+pub use lines::put_refused;
+
+// The room of a number of 32 bits, ten digits at most, and of one of 64, twenty; with the byte behind it.
+const ENTRY: usize = 11;
+
+const FIGURE: usize = 21;
+
+// The room of a line, and of the last one: two words and two numbers. A refusal is shorter than that.
+pub const LINE: usize = 8 * ENTRY;
+
+pub const TOTALS: usize = 13 + 2 * FIGURE;

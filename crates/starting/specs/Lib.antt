@@ -1,0 +1,2 @@
+-- The call Start: what it is refused for, and what it leaves.
+pub mod Start

@@ -1,0 +1,4 @@
+// Starting a net.
+mod starting;
+
+pub use starting::start;

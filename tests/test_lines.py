@@ -1,0 +1,109 @@
+"""What the programs `lines` and `figures` are to write, worked out by the oracle from the cases that they are given. The proof tool holds
+each program to its file `stdout`, so that file is held to the oracle here."""
+
+import re
+from pathlib import Path
+
+from harness import test
+from oracle import calls
+from oracle.forest import ABSENT
+
+CRATES = Path(__file__).resolve().parent.parent / "crates"
+
+
+def nines(*sizes):
+    return [[9] * size for size in sizes]
+
+
+def work(n, m, number, sizes, changed=(0,)):
+    """The answer, and the work tables: n, n and m entries, another length is 2 (behind 1), zeros after an accepted call."""
+    if number != 1 and sizes != [n, n, m]:
+        number = 2
+    return number, [[0 if number in changed else 9] * size for size in sizes]
+
+
+def start(parents, weights):
+    return calls.start(parents, weights)
+
+
+def add(parents, weights, edges, sizes):
+    number, left = work(len(parents), len(parents) + len(edges) // 2, calls.add_refusal(parents, weights, edges), sizes)
+    return number, *(calls.add(parents, weights, edges)[1:] if number == 0 else (parents, weights)), *left
+
+
+def join(parents, weights, others, their_weights, sizes):
+    given = parents, weights, others, their_weights
+    number, left = work(len(parents), len(parents) + len(others), calls.join_refusal(*given), sizes)
+    return number, *(calls.join(*given)[1:] if number == 0 else (parents, weights)), *left
+
+
+def relabel(order, edges, sizes):
+    ranked, inverse = nines(*sizes)
+    number = calls.translate_refusal(order, edges, ranked)
+    if number != 1 and len(inverse) != len(order):
+        number = 2
+    if number:
+        return number, ranked, inverse
+    return 0, calls.translate(order, edges, ranked)[1], [order.index(mark) for mark in range(len(order))]
+
+
+def save(parents, weights, sizes):
+    return calls.save(parents, weights, *nines(*sizes))
+
+
+def read(parents, weights, data):
+    return calls.read(parents, weights, data)
+
+
+def divide(parents, weights, numbers):
+    limit, k, n, loads = numbers
+    return calls.divide(parents, weights, limit, k, *nines(n, n, n, loads))
+
+
+def report(parents, weights, numbers, sizes):
+    limit, k, edges = *numbers[:2], numbers[2:]
+    n, loads, blocks, lower = sizes
+    tables = nines(n, n, n, loads, blocks, n, n, n, n)
+    refusal = calls.report_refusal(parents, weights, limit, k, edges, tables)
+    number, left = work(len(parents), len(parents) + len(edges) // 2, refusal, [n, n, lower], changed=(0, 23))
+    if number != refusal:
+        return number, *tables, *left
+    *answer, bound, volume = calls.report(parents, weights, limit, k, edges, *tables)
+    return (number if number else (bound, volume)), *answer[1:], *left
+
+
+def answer_text(answer):
+    if isinstance(answer, tuple):
+        return "accepted, bound %d, volume %d" % answer
+    return f"refused {answer}" if answer else "accepted"
+
+
+def result(line):
+    """The line that stands below a case."""
+    call, lent = line.split()[0], line.split(":", 1)[1]
+    tables = [[ABSENT if word == "-" else int(word) for word in re.findall(r"\d+|-", table)] for table in lent.split(";")[:-1]]
+    answer, *left = globals()[call](*tables)
+    shown = "".join("".join(" -" if x == ABSENT else f" {x}" for x in table) + " ;" for table in left)
+    return f"  {answer_text(answer)} ;{shown}"
+
+
+def text(cases):
+    return "".join(line + "\n" + ("" if line.startswith("#") else result(line) + "\n") for line in cases.splitlines())
+
+
+def compare(t, crate):
+    want = text((crate / "stdin").read_text()).splitlines()
+    got = (crate / "stdout").read_text().splitlines()
+    t.same(len(got), len(want))
+    for one, other in zip(got, want):
+        t.same(one, other)
+
+
+@test(at_least=100)
+def written_by_lines(t):
+    compare(t, CRATES / "lines")
+
+
+@test(at_least=50)
+def written_by_figures(t):
+    compare(t, CRATES / "figures")
