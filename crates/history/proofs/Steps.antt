@@ -4,7 +4,7 @@
 use mathlib.Core.Path.{_≡_, refl, sym, ap, ap₂, subst, _∙_}
 use mathlib.Core.Bool.{Bool, true, false}
 use mathlib.Core.List.{List, [], _++_}
-use mathlib.Core.Option.{Option, none, some}
+use mathlib.Core.Option.{Option, none, some, Option·none-ne-some}
 use Prim.Native.Nat.{ℕ, zero, suc, _≤_, _<_}
 use native.Mathlib.Omega.{arith}
 use lib.ListN.{length}
@@ -37,7 +37,7 @@ use Rattle.relabel.specs.Relabel.{relabelOutcome}
 use Rattle.partition.specs.Divide.{divideOutcome}
 use Rattle.report.specs.Report.{reportOutcome}
 use Rattle.history.specs.World.{World, Call, start, add, join, save, read, relabel, divide, report, update, withNet, withFile, step, stepped}
-use Rattle.history.specs.Book.{Book, Entry, entry, enter, note, behind, started, added, joined as entered, saved, loaded, passed}
+use Rattle.history.specs.Book.{NetRecord, FileRecord, Book, Entry, entry, enter, note, behind, savedRecord, loadedRecord, started, added, joined as entered, saved, loaded, passed}
 use Rattle.history.proofs.Update.{update-both, update-same}
 
 -- a vertex count that nets may have
@@ -58,30 +58,30 @@ pub record FileOf (bytes : List ℕ) (ts : List Edge) : Type 0 where
   pub is : bytes ≡ linkFile (netOf vertices ts)
   pub undamaged : damaged (netOf vertices ts) ≡ false
 
--- of a net and its entry in the book, and of a file and its entry
-pub record NetKept (net : Net) (list : Option (List Edge)) : Type 0 where
-  pub kept : (ts : List Edge) → list ≡ some ts → NetOf net ts
+-- of a net and what the book keeps of it, and of a file
+pub record NetKept (net : Net) (noted : Option NetRecord) : Type 0 where
+  pub kept : (r : NetRecord) → noted ≡ some r → NetOf net (r .edges)
 
-pub record FileKept (bytes : List ℕ) (list : Option (List Edge)) : Type 0 where
-  pub kept : (ts : List Edge) → list ≡ some ts → FileOf bytes ts
+pub record FileKept (bytes : List ℕ) (noted : Option FileRecord) : Type 0 where
+  pub kept : (r : FileRecord) → noted ≡ some r → FileOf bytes (r .edges)
 
 pub record Kept (w : World) (b : Book) : Type 0 where
   pub nets : (i : ℕ) → NetKept (w .nets i) (b .nets i)
   pub files : (f : ℕ) → FileKept (w .files f) (b .files f)
 
 -- a call that writes one net, or one file: refused it leaves the old one, accepted it has to put in what its entry demands
-net-written : {w : World} {b : Book} (v : Kept w b) (i k : ℕ) (new : Net) (list : Option (List Edge)) (e : Entry) → enter b e ≡ record { nets = update (b .nets) i list; files = b .files } → (k ≡ 0 → NetKept new list) → Kept (withNet w i (unless k (w .nets i) new)) (note b e (isAccepted (judged k (tt {0}))))
+net-written : {w : World} {b : Book} (v : Kept w b) (i k : ℕ) (new : Net) (noted : Option NetRecord) (e : Entry) → enter b e ≡ record { nets = update (b .nets) i noted; files = b .files } → (k ≡ 0 → NetKept new noted) → Kept (withNet w i (unless k (w .nets i) new)) (note b e (isAccepted (judged k (tt {0}))))
 unfolding unless note isAccepted judged
-net-written {w} {b} v i zero new list e q h =
-    subst (Kept (withNet w i new)) (sym q) (record { nets = update-both NetKept (w .nets) (b .nets) (v .nets) i new list (h refl); files = v .files })
-net-written {w} {b} v i (suc k) new list e q h =
+net-written {w} {b} v i zero new noted e q h =
+    subst (Kept (withNet w i new)) (sym q) (record { nets = update-both NetKept (w .nets) (b .nets) (v .nets) i new noted (h refl); files = v .files })
+net-written {w} {b} v i (suc k) new noted e q h =
     record { nets = update-same NetKept (w .nets) (b .nets) (v .nets) i (w .nets i) refl; files = v .files }
 
-file-written : {w : World} {b : Book} (v : Kept w b) (f k : ℕ) (new : List ℕ) (list : Option (List Edge)) (e : Entry) → enter b e ≡ record { nets = b .nets; files = update (b .files) f list } → (k ≡ 0 → FileKept new list) → Kept (withFile w f (unless k (w .files f) new)) (note b e (isAccepted (judged k (tt {0}))))
+file-written : {w : World} {b : Book} (v : Kept w b) (f k : ℕ) (new : List ℕ) (noted : Option FileRecord) (e : Entry) → enter b e ≡ record { nets = b .nets; files = update (b .files) f noted } → (k ≡ 0 → FileKept new noted) → Kept (withFile w f (unless k (w .files f) new)) (note b e (isAccepted (judged k (tt {0}))))
 unfolding unless note isAccepted judged
-file-written {w} {b} v f zero new list e q h =
-    subst (Kept (withFile w f new)) (sym q) (record { nets = v .nets; files = update-both FileKept (w .files) (b .files) (v .files) f new list (h refl) })
-file-written {w} {b} v f (suc k) new list e q h =
+file-written {w} {b} v f zero new noted e q h =
+    subst (Kept (withFile w f new)) (sym q) (record { nets = v .nets; files = update-both FileKept (w .files) (b .files) (v .files) f new noted (h refl) })
+file-written {w} {b} v f (suc k) new noted e q h =
     record { nets = v .nets; files = update-same FileKept (w .files) (b .files) (v .files) f (w .files f) refl }
 
 pub net-lengths : (n : ℕ) (ts : List Edge) → (length (netOf n ts .parents) ≡ n) × (length (netOf n ts .weights) ≡ n)
@@ -94,40 +94,50 @@ parents-length {ts = ts} g = ap (λ (x : Net). length (x .parents)) (g .is) ∙ 
 small : {n : ℕ} → Count n → n ≤ absent
 small c = omega (arith, c .few)
 
--- a list is none, or it is the one that an entry names
-of-list : {net : Net} {us : List Edge} → NetOf net us → NetKept net (some us)
-of-list {net} {us} g = record { kept = λ ts e. let same : us ≡ ts = cc in subst (NetOf net) same g }
+-- the record that was put in is the one that is found
+net-recorded : {net : Net} (r : NetRecord) → NetOf net (r .edges) → NetKept net (some r)
+net-recorded {net} r g = record { kept = λ s e. let same : r ≡ s = cc in subst (λ (t : NetRecord). NetOf net (t .edges)) same g }
+
+file-recorded : {bytes : List ℕ} (r : FileRecord) → FileOf bytes (r .edges) → FileKept bytes (some r)
+file-recorded {bytes} r g = record { kept = λ s e. let same : r ≡ s = cc in subst (λ (t : FileRecord). FileOf bytes (t .edges)) same g }
+
+-- nothing is claimed where nothing is kept
+pub net-unrecorded : {net : Net} → NetKept net none
+net-unrecorded = record { kept = λ r e. absurd (Option·none-ne-some r e) }
+
+pub file-unrecorded : {bytes : List ℕ} → FileKept bytes none
+file-unrecorded = record { kept = λ r e. absurd (Option·none-ne-some r e) }
 
 of-net : {n : ℕ} {ts : List Edge} → Count n → Proper n ts → NetOf (netOf n ts) ts
 of-net {n} c p = record { vertices = n; count = c; proper = p; is = refl }
 
-pub nothing : {ts : List Edge} → none ≡ some ts → ⊥
-nothing e = let z : _≡_ {A = ℕ} 0 1 = cc in omega arith
-
 -- a list behind a list
-both : (a b : Option (List Edge)) {net : Net} → ((es fs : List Edge) → a ≡ some es → b ≡ some fs → NetOf net (es ++ fs)) → NetKept net (behind a b)
+both : (a b : Option NetRecord) {net : Net} → ((r s : NetRecord) → a ≡ some r → b ≡ some s → NetOf net (r .edges ++ s .edges)) → NetKept net (behind a b)
 unfolding behind
-both none b h = record { kept = λ ts e. absurd (nothing e) }
-both (some es) none h = record { kept = λ ts e. absurd (nothing e) }
-both (some es) (some fs) h = of-list (h es fs refl refl)
+both none b h = net-unrecorded
+both (some r) none h = net-unrecorded
+both (some r) (some s) h = net-recorded _ (h r s refl refl)
 
 -- starting
-started-kept : (net : Net) → startRefusal net ≡ 0 → NetKept (netOf (length (net .parents)) []) (some [])
+started-kept : (net : Net) → startRefusal net ≡ 0 → NetKept (netOf (length (net .parents)) []) (some (record { edges = [] }))
 started-kept net z =
     let s = startable net z in
-    of-list (of-net (record { some = s .some; few = s .few }) (proper-nil (length (net .parents))))
+    net-recorded _ (of-net (record { some = s .some; few = s .few }) (proper-nil (length (net .parents))))
 
 -- adding
-added-kept : (net : Net) (list : Option (List Edge)) (xs : List ℕ) (work : Work) → NetKept net list → addRefusal (growing net work) xs ≡ 0 → NetKept (grown net (edges xs)) (behind list (some (edges xs)))
-added-kept net list xs work v z = both list (some (edges xs)) go
+added-kept : (net : Net) (noted : Option NetRecord) (xs : List ℕ) (work : Work) → NetKept net noted → addRefusal (growing net work) xs ≡ 0 → NetKept (grown net (edges xs)) (behind noted (some (record { edges = edges xs })))
+added-kept net noted xs work v z = both noted (some new) go
   where
-    go : (es fs : List Edge) → list ≡ some es → some (edges xs) ≡ some fs → NetOf (grown net (edges xs)) (es ++ fs)
-    go es fs e f =
-        let g = v .kept es e in
+    new : NetRecord
+    new = record { edges = edges xs }
+
+    go : (r s : NetRecord) → noted ≡ some r → some new ≡ some s → NetOf (grown net (edges xs)) (r .edges ++ s .edges)
+    go r s e f =
+        let g = v .kept r e in
         let a = addable (growing net work) xs z in
-        let is-fs : edges xs ≡ fs = cc in
+        let same : new ≡ s = cc in
         let proper : Proper (g .vertices) (edges xs) = subst (λ (n : ℕ). Proper n (edges xs)) (parents-length g) (faultless-proper (length (net .parents)) (edges xs) (a .faultless)) in
-        subst (λ (us : List Edge). NetOf (grown net (edges xs)) (es ++ us)) is-fs
+        subst (λ (t : NetRecord). NetOf (grown net (edges xs)) (r .edges ++ t .edges)) same
         (record {
           vertices = g .vertices;
           count = g .count;
@@ -136,45 +146,49 @@ added-kept net list xs work v z = both list (some (edges xs)) go
         })
 
 -- joining
-joined-kept : (net other : Net) (list second : Option (List Edge)) (work : Work) → NetKept net list → NetKept other second → joinRefusal (growing net work) other ≡ 0 → NetKept (joined net other) (behind list second)
-joined-kept net other list second work v u z = both list second go
+joined-kept : (net other : Net) (noted second : Option NetRecord) (work : Work) → NetKept net noted → NetKept other second → joinRefusal (growing net work) other ≡ 0 → NetKept (joined net other) (behind noted second)
+joined-kept net other noted second work v u z = both noted second go
   where
-    go : (es fs : List Edge) → list ≡ some es → second ≡ some fs → NetOf (joined net other) (es ++ fs)
-    go es fs e f =
-        let g = v .kept es e in
-        let h = u .kept fs f in
+    go : (r s : NetRecord) → noted ≡ some r → second ≡ some s → NetOf (joined net other) (r .edges ++ s .edges)
+    go r s e f =
+        let g = v .kept r e in
+        let h = u .kept s f in
         let a = joinable (growing net work) other z in
         let same : h .vertices ≡ g .vertices = sym (parents-length h) ∙ a .same ∙ parents-length g in
-        let proper : Proper (g .vertices) fs = subst (λ (n : ℕ). Proper n fs) same (h .proper) in
+        let proper : Proper (g .vertices) (s .edges) = subst (λ (n : ℕ). Proper n (s .edges)) same (h .proper) in
         record {
           vertices = g .vertices;
           count = g .count;
           proper = proper-append (g .proper) proper;
-          is = ap₂ joined (g .is) (h .is ∙ ap (λ (n : ℕ). netOf n fs) same) ∙ joined-net fs (small (g .count)) (g .proper) proper;
+          is = ap₂ joined (g .is) (h .is ∙ ap (λ (n : ℕ). netOf n (s .edges)) same) ∙ joined-net (s .edges) (small (g .count)) (g .proper) proper;
         }
 
 -- saving
-saved-kept : (net : Net) (list : Option (List Edge)) (m : ℕ) → NetKept net list → saveRefusal net m ≡ 0 → FileKept (linkFile net) list
-saved-kept net list m v z = record {
-  kept = λ ts e. let g = v .kept ts e in record {
-    vertices = g .vertices;
-    count = g .count;
-    proper = g .proper;
-    is = ap linkFile (g .is);
-    undamaged = ap damaged (sym (g .is)) ∙ save-accepted net m z .undamaged;
-  };
-}
+saved-kept : (net : Net) (noted : Option NetRecord) (m : ℕ) → NetKept net noted → saveRefusal net m ≡ 0 → FileKept (linkFile net) (savedRecord noted)
+unfolding savedRecord
+saved-kept net none m v z = file-unrecorded
+saved-kept net (some r) m v z =
+    let g = v .kept r refl in
+    file-recorded _ (record {
+      vertices = g .vertices;
+      count = g .count;
+      proper = g .proper;
+      is = ap linkFile (g .is);
+      undamaged = ap damaged (sym (g .is)) ∙ save-accepted net m z .undamaged;
+    })
 
 -- reading
-loaded-kept : (bytes : List ℕ) (list : Option (List Edge)) → FileKept bytes list → NetKept (fileNet bytes) list
-loaded-kept bytes list v = record {
-  kept = λ ts e. let g = v .kept ts e in record {
-    vertices = g .vertices;
-    count = g .count;
-    proper = g .proper;
-    is = ap fileNet (g .is) ∙ back ts g;
-  };
-}
+loaded-kept : (bytes : List ℕ) (noted : Option FileRecord) → FileKept bytes noted → NetKept (fileNet bytes) (loadedRecord noted)
+unfolding loadedRecord
+loaded-kept bytes none v = net-unrecorded
+loaded-kept bytes (some r) v =
+    let g = v .kept r refl in
+    net-recorded _ (record {
+      vertices = g .vertices;
+      count = g .count;
+      proper = g .proper;
+      is = ap fileNet (g .is) ∙ back (r .edges) g;
+    })
   where
     back : (ts : List Edge) (g : FileOf bytes ts) → fileNet (linkFile (netOf (g .vertices) ts)) ≡ netOf (g .vertices) ts
     back ts g =
@@ -193,11 +207,11 @@ note-passed b false = refl
 pub step-keeps : {w : World} {b : Book} (c : Call) → Kept w b → Kept (step w c .world) (note b (entry c) (step w c .accepted))
 unfolding step stepped entry decided enter startOutcome addOutcome joinOutcome saveOutcome readOutcome
 step-keeps {w} {b} (start i) v =
-    net-written v i (startRefusal (w .nets i)) (netOf (length (w .nets i .parents)) []) (some []) (started i) refl (started-kept (w .nets i))
+    net-written v i (startRefusal (w .nets i)) (netOf (length (w .nets i .parents)) []) (some (record { edges = [] })) (started i) refl (started-kept (w .nets i))
 step-keeps {w} {b} (add i xs work) v =
     subst (λ (x : Net). Kept (withNet w i x) (note b (added i xs) (isAccepted (judged (addRefusal (growing (w .nets i) work) xs) (tt {0})))))
     (sym (unless-part (λ (g : Growing). g .net) (addRefusal (growing (w .nets i) work) xs) (growing (w .nets i) work) (growing (grown (w .nets i) (edges xs)) (cleared work))))
-    (net-written v i (addRefusal (growing (w .nets i) work) xs) (grown (w .nets i) (edges xs)) (behind (b .nets i) (some (edges xs))) (added i xs) refl
+    (net-written v i (addRefusal (growing (w .nets i) work) xs) (grown (w .nets i) (edges xs)) (behind (b .nets i) (some (record { edges = edges xs }))) (added i xs) refl
     (added-kept (w .nets i) (b .nets i) xs work (v .nets i)))
 step-keeps {w} {b} (join i j different work) v =
     subst (λ (x : Net). Kept (withNet w i x) (note b (entered i j) (isAccepted (judged (joinRefusal (growing (w .nets i) work) (w .nets j)) (tt {0})))))
@@ -205,10 +219,10 @@ step-keeps {w} {b} (join i j different work) v =
     (net-written v i (joinRefusal (growing (w .nets i) work) (w .nets j)) (joined (w .nets i) (w .nets j)) (behind (b .nets i) (b .nets j)) (entered i j) refl
     (joined-kept (w .nets i) (w .nets j) (b .nets i) (b .nets j) work (v .nets i) (v .nets j)))
 step-keeps {w} {b} (save i f) v =
-    file-written v f (saveRefusal (w .nets i) (length (w .files f))) (linkFile (w .nets i)) (b .nets i) (saved i f) refl
+    file-written v f (saveRefusal (w .nets i) (length (w .files f))) (linkFile (w .nets i)) (savedRecord (b .nets i)) (saved i f) refl
     (saved-kept (w .nets i) (b .nets i) (length (w .files f)) (v .nets i))
 step-keeps {w} {b} (read i f) v =
-    net-written v i (readRefusal (length (w .nets i .parents)) (length (w .nets i .weights)) (w .files f)) (fileNet (w .files f)) (b .files f) (loaded i f) refl
+    net-written v i (readRefusal (length (w .nets i .parents)) (length (w .nets i .weights)) (w .files f)) (fileNet (w .files f)) (loadedRecord (b .files f)) (loaded i f) refl
     (λ z. loaded-kept (w .files f) (b .files f) (v .files f))
 step-keeps {w} {b} (relabel order xs tables) v = subst (Kept w) (sym (note-passed b (isAccepted (relabelOutcome order xs tables .verdict)))) v
 step-keeps {w} {b} (divide i B k tables) v = subst (Kept w) (sym (note-passed b (isAccepted (divideOutcome (w .nets i) B k tables .verdict)))) v

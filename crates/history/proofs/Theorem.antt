@@ -14,7 +14,7 @@ use Rattle.report.proofs.Own.{own-not-23, accepted-totals}
 use Rattle.history.specs.World.{World, Call}
 use Rattle.history.specs.Book.{Book, blank}
 use Rattle.history.specs.History.{worldAfter, bookAfter, Reports, NetHolds, FileHolds, Holds}
-use Rattle.history.proofs.Steps.{NetOf, FileOf, Kept, nothing, net-lengths, parents-length, step-keeps}
+use Rattle.history.proofs.Steps.{NetOf, FileOf, Kept, net-unrecorded, file-unrecorded, net-lengths, parents-length, step-keeps}
 
 -- a report that is lent the list of a net
 reports : (net : Net) (ts : List Edge) (B k : ℕ) (xs : List ℕ) (tables : Lent) → net ≡ netOf (length (net .parents)) ts → edges xs ≡ ts → Reports net ts B k (reportOutcome net B k xs tables .verdict)
@@ -50,7 +50,7 @@ file-holds {bytes} {ts} g =
 -- nothing is claimed at first
 blank-kept : (w : World) → Kept w blank
 unfolding blank
-blank-kept w = record { nets = λ i. record { kept = λ ts e. absurd (nothing e) }; files = λ f. record { kept = λ ts e. absurd (nothing e) } }
+blank-kept w = record { nets = λ i. net-unrecorded; files = λ f. file-unrecorded }
 
 kept-after : {w : World} {b : Book} (cs : List Call) → Kept w b → Kept (worldAfter w cs) (bookAfter w b cs)
 unfolding worldAfter bookAfter
@@ -61,4 +61,4 @@ kept-after (c ∷ cs) v = kept-after cs (step-keeps c v)
 pub history : (w : World) (cs : List Call) → Holds (worldAfter w cs) (bookAfter w blank cs)
 history w cs =
     let v = kept-after cs (blank-kept w) in
-    record { nets = λ i ts e. net-holds (v .nets i .kept ts e); files = λ f ts e. file-holds (v .files f .kept ts e) }
+    record { nets = λ i r e. net-holds (v .nets i .kept r e); files = λ f r e. file-holds (v .files f .kept r e) }

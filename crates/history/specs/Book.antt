@@ -1,4 +1,4 @@
--- The book of ties: for each net and file a list of edges, or none.
+-- The book of ties: for each net and file a record with a list of edges, or none.
 --
 -- Document 01: "The book is fed which nets and file each call was lent, the tie list of an addition, and whether the call was
 -- accepted. It never looks into parents, loads or a file's bytes. For each net and file it keeps a list of ties in ranks, or none. At
@@ -11,9 +11,18 @@ use Prim.Native.Nat.{ℕ}
 use Rattle.game.specs.Edge.{Edge, edges}
 use Rattle.history.specs.World.{Call, start, add, join, save, read, relabel, divide, report, update}
 
+-- what is kept of a net with a list: its edges
+pub record NetRecord : Type 0 where
+  pub edges : List Edge
+
+-- what is kept of a file with a list: the edges of the net that was saved to it. A type of its own, so that a file's list may have beside
+-- it what a net's has not.
+pub record FileRecord : Type 0 where
+  pub edges : List Edge
+
 pub record Book : Type 0 where
-  pub nets : ℕ → Option (List Edge)
-  pub files : ℕ → Option (List Edge)
+  pub nets : ℕ → Option NetRecord
+  pub files : ℕ → Option FileRecord
 
 -- what the book is fed of a call
 pub data Entry : Type 0 where
@@ -35,10 +44,19 @@ entry (divide i B k tables) = passed
 entry (report i B k xs tables) = passed
 
 -- a list behind a list; none, if either is none
-unfoldable pub behind : Option (List Edge) → Option (List Edge) → Option (List Edge)
+unfoldable pub behind : Option NetRecord → Option NetRecord → Option NetRecord
 behind none b = none
-behind (some es) none = none
-behind (some es) (some fs) = some (es ++ fs)
+behind (some r) none = none
+behind (some r) (some s) = some (record { edges = r .edges ++ s .edges })
+
+-- a file's record from that of the net that is saved to it, and a net's from that of the file that is read into it
+unfoldable pub savedRecord : Option NetRecord → Option FileRecord
+savedRecord none = none
+savedRecord (some r) = some (record { edges = r .edges })
+
+unfoldable pub loadedRecord : Option FileRecord → Option NetRecord
+loadedRecord none = none
+loadedRecord (some r) = some (record { edges = r .edges })
 
 -- an accepted call's entry:
 -- "Start: the net's list is empty, with no tie in it.
@@ -47,11 +65,11 @@ behind (some es) (some fs) = some (es ++ fs)
 --  Save: the file gets the net's list, or none if the net has none.
 --  Read: the net gets the file's list, or none if the file has none."
 unfoldable pub enter : Book → Entry → Book
-enter b (started i) = record { nets = update (b .nets) i (some []); files = b .files }
-enter b (added i xs) = record { nets = update (b .nets) i (behind (b .nets i) (some (edges xs))); files = b .files }
+enter b (started i) = record { nets = update (b .nets) i (some (record { edges = [] })); files = b .files }
+enter b (added i xs) = record { nets = update (b .nets) i (behind (b .nets i) (some (record { edges = edges xs }))); files = b .files }
 enter b (joined i j) = record { nets = update (b .nets) i (behind (b .nets i) (b .nets j)); files = b .files }
-enter b (saved i f) = record { nets = b .nets; files = update (b .files) f (b .nets i) }
-enter b (loaded i f) = record { nets = update (b .nets) i (b .files f); files = b .files }
+enter b (saved i f) = record { nets = b .nets; files = update (b .files) f (savedRecord (b .nets i)) }
+enter b (loaded i f) = record { nets = update (b .nets) i (loadedRecord (b .files f)); files = b .files }
 enter b passed = b
 
 -- "Refused: nothing changes." The book is told whether the call was accepted.

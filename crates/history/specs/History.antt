@@ -19,7 +19,7 @@ use Rattle.cost.specs.declared.Totals.{Totals}
 use Rattle.cost.specs.Figures.{boundOf, volumeOf, totalsOf}
 use Rattle.report.specs.Report.{Lent, reportOutcome}
 use Rattle.history.specs.World.{World, Call, step}
-use Rattle.history.specs.Book.{Book, entry, note}
+use Rattle.history.specs.Book.{NetRecord, FileRecord, Book, entry, note}
 
 -- the world and the book after a list of calls: "Each call finds every net and file as the call before left it"
 unfoldable pub worldAfter : World → List Call → World
@@ -53,5 +53,5 @@ pub record FileHolds (bytes : List ℕ) (ts : List Edge) : Type 0 where
 
 -- every net and file with a list in the book holds what its list demands
 pub record Holds (w : World) (b : Book) : Type 0 where
-  pub nets : (i : ℕ) (ts : List Edge) → b .nets i ≡ some ts → NetHolds (w .nets i) ts
-  pub files : (f : ℕ) (ts : List Edge) → b .files f ≡ some ts → FileHolds (w .files f) ts
+  pub nets : (i : ℕ) (r : NetRecord) → b .nets i ≡ some r → NetHolds (w .nets i) (r .edges)
+  pub files : (f : ℕ) (r : FileRecord) → b .files f ≡ some r → FileHolds (w .files f) (r .edges)
