@@ -16,31 +16,27 @@ use Rattle.decimal.proofs.Runs.{put-length, put-none, put-on}
 use Rattle.refusal.specs.Verdict.{Verdict, accepted, refused}
 use Rattle.cost.specs.declared.Totals.{Totals}
 use Rattle.printing.specs.Lines.{refusedText, spaced, parentText, linesBelow, totalsText}
-use Rattle.printing.specs.Steps.{answerText, entryRoom, figureRoom, lineRoom}
+use Rattle.printing.specs.Steps.{answerText, entryRoom, lineRoom}
 
 -- numbers of 32 and of 64 bits
-word-digits : (x : ℕ) → x < 2 ^ 32 → length (decimal x) ≤ 10
+pub word-digits : (x : ℕ) → x < 2 ^ 32 → length (decimal x) ≤ 10
 word-digits x h = decimal-short 9 x (omega arith)
 
-long-digits : (x : ℕ) → x < 2 ^ 64 → length (decimal x) ≤ 20
+pub long-digits : (x : ℕ) → x < 2 ^ 64 → length (decimal x) ≤ 20
 long-digits x h = decimal-short 19 x (omega arith)
 
--- a number of 32 bits and the byte behind it
-module _ {x y : ℕ} (h : x < 2 ^ 32) (e : y ≡ x) where
-  pub entry-room : (at room : ℕ) → at + entryRoom ≤ room → at + length (decimal y) < room
-  entry-room at room l = omega (arith, ap (λ (z : ℕ). length (decimal z)) e, word-digits x h)
+-- a number x, handed on as y, and the byte behind it
+module _ (digits : ℕ) {x y : ℕ} (e : y ≡ x) (h : length (decimal x) ≤ digits) where
+  short : length (decimal y) ≤ digits
+  short = omega (arith, ap (λ (z : ℕ). length (decimal z)) e)
 
-  pub put-entry : {was now : List ℕ} {at end : ℕ} (after : ℕ) → Put was at (decimal y ++ (after ∷ [])) now end → Put was at (decimal x ++ (after ∷ [])) now end × (end ≤ at + entryRoom)
-  put-entry {was} {now} {at} {end} after p =
-      (subst (λ (z : ℕ). Put was at (decimal z ++ (after ∷ [])) now end) e p, omega (arith, p .ends, length-append (decimal y) (after ∷ []), ap (λ (z : ℕ). length (decimal z)) e, word-digits x h))
+  pub field-room : (at room : ℕ) → at + (digits + 1) ≤ room → at + length (decimal y) < room
+  field-room at room l = omega (arith, short)
 
--- a number of 64 bits and the byte behind it
-module _ {x : ℕ} (h : x < 2 ^ 64) where
-  pub figure-room : (at room : ℕ) → at + figureRoom ≤ room → at + length (decimal x) < room
-  figure-room at room l = omega (arith, long-digits x h)
-
-  pub put-figure : {was now : List ℕ} {at end : ℕ} (after : ℕ) → Put was at (decimal x ++ (after ∷ [])) now end → Put was at (decimal x ++ (after ∷ [])) now end × (end ≤ at + figureRoom)
-  put-figure after p = (p, omega (arith, p .ends, length-append (decimal x) (after ∷ []), long-digits x h))
+  pub put-field : {was now : List ℕ} {at end : ℕ} (after : ℕ) → Put was at (decimal y ++ (after ∷ [])) now end
+      → Put was at (decimal x ++ (after ∷ [])) now end × (end ≤ at + (digits + 1))
+  put-field {was} {now} {at} {end} after p =
+      (subst (λ (z : ℕ). Put was at (decimal z ++ (after ∷ [])) now end) e p, omega (arith, p .ends, length-append (decimal y) (after ∷ []), short))
 
 -- a parent
 module _ {was now : List ℕ} {at end p : ℕ} where

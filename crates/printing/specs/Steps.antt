@@ -1,4 +1,4 @@
--- What the steps of printing promise each other. No public promise speaks of it: a run's is on its text alone.
+-- What the steps of printing promise each other, and a run. A run's own promise does not speak of it: that is on its text alone.
 -- Assumes nothing.
 use mathlib.Core.Path.{_≡_}
 use mathlib.Core.List.{List, _++_}

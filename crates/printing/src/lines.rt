@@ -1,4 +1,5 @@
-// The lines of a run, written from the front of a table of bytes on. The answer of each function is the place after what it wrote.
+// The lines of a run, written into a table of bytes from a place `at` on, or from its front. The answer of each function is the place
+// after what it wrote.
 use crate::fields::put_entry;
 use crate::fields::put_figure;
 use crate::fields::put_parent;

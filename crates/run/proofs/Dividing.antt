@@ -3,38 +3,30 @@
 use mathlib.Core.Path.{_≡_, sym, ap, ap₂, subst, _∙_}
 use mathlib.Core.Bool.{false}
 use mathlib.Core.List.{List}
-use Prim.Native.Nat.{ℕ, _%_}
+use Prim.Native.Nat.{ℕ}
 use native.Mathlib.Omega.{arith}
 use lib.ListN.{length}
 use Rattle.game.specs.Edge.{edges}
 use Rattle.game.specs.Net.{Net, net, netOf}
-use Rattle.refusal.specs.Refusal.{firstFault}
 use Rattle.relabel.specs.Relabel.{relabelled}
-use Rattle.relabel.proofs.Relabelled.{relabelled-faultless}
 use Rattle.partition.specs.Divide.{badLimits}
 use Rattle.decimal.specs.Put.{Put}
 use Rattle.run.specs.Steps.{Runnable, Grown, Ready, netText}
-use Rattle.run.proofs.Growing.{ranked-length, ranked-count}
+use Rattle.run.proofs.Growing.{ranked-count, ranked-even, ranked-faultless}
 
 -- what was grown, read again from the tables that it stands in
 pub grown-again : {o xs ranks p w ranks′ p′ w′ : List ℕ} → Grown o xs ranks (net p w) → ranks′ ≡ ranks → p′ ≡ p → w′ ≡ w → Grown o xs ranks′ (net p′ w′)
 grown-again g er ep ew = record { ranked = er ∙ g .ranked; net = ap₂ net ep ew ∙ g .net }
 
 module _ {o xs ranks : List ℕ} {grown : Net} (r : Runnable o xs) (g : Grown o xs ranks grown) where
-  as-long : length ranks ≡ length xs
-  as-long = ranked-length o xs (g .ranked)
-
-  as-many : length (edges ranks) ≡ length (edges xs)
-  as-many = ranked-count o xs (g .ranked)
-
   pub to-report : {B k : ℕ} → badLimits B k ≡ false → Ready o ranks B k grown
   to-report good =
       record {
         some = r .some;
         vertices = r .vertices;
-        few = omega (arith, as-many, r .few);
-        even = ap (λ (n : ℕ). n % 2) as-long ∙ r .even;
-        faultless = ap (λ (ys : List ℕ). firstFault (length o) (edges ys)) (g .ranked) ∙ relabelled-faultless o (r .good) xs (r .faultless);
+        few = omega (arith, ranked-count r (g .ranked), r .few);
+        even = ranked-even r (g .ranked);
+        faultless = ranked-faultless r (g .ranked);
         limits = good;
         own = g .net ∙ ap (λ (ys : List ℕ). netOf (length o) (edges ys)) (sym (g .ranked));
       }

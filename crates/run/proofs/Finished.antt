@@ -10,7 +10,7 @@ use lib.Seq.{length-take-le}
 use Rattle.game.specs.Edge.{edges}
 use Rattle.game.specs.Net.{netOf}
 use Rattle.game.proofs.Edges.{edges-length}
-use Rattle.refusal.specs.Refusal.{given, first, unless, firstFault}
+use Rattle.refusal.specs.Refusal.{given, first, firstFault}
 use Rattle.refusal.proofs.First.{first-none, first-pass, first-stop, first-last, given-none, unless-refused}
 use Rattle.words.specs.Word.{words}
 use Rattle.words.proofs.Bytes.{words-length}
@@ -24,7 +24,7 @@ use Rattle.files.specs.Refused.{fileRefusal}
 use Rattle.files.specs.Steps.{Loaded, endCapacity}
 use Rattle.files.proofs.Loading.{Sizes, sizes, sizes-pass}
 use Rattle.run.specs.Run.{rankedEdges, runNet, runRefusal}
-use Rattle.run.specs.Text.{reportText, runText}
+use Rattle.run.specs.Text.{reportText, decidedText, runText}
 use Rattle.run.specs.Steps.{Runnable, netText}
 
 module _ (f : Files) where
@@ -72,11 +72,11 @@ module _ (f : Files) where
         ∙ ap text (sym (first-pass _ _ z ∙ first-last _))
       where
         text : ℕ → List ℕ
-        text code = unless code (refusedText code) (reportText (order f) (rankedEdges f) (limit f) (blocks f))
+        text code = decidedText code (reportText (order f) (rankedEdges f) (limit f) (blocks f))
 
   -- files that are refused
   pub refused-text : {code : ℕ} → code ≡ fileRefusal f → (code ≡ 0 → ⊥) → refusedText code ≡ runText f
-  unfolding runText runRefusal
+  unfolding runText decidedText runRefusal
   refused-text {code} e d =
       ap refusedText is ∙ sym (unless-refused _ (refusedText _) _ (λ z. d (is ∙ z)))
     where

@@ -29,12 +29,19 @@ pub few-vertices : (n : ℕ) → 0 < n → n ≤ vertexCapacity → badCount n �
 unfolding badCount
 few-vertices n some few = rw (ne-eqb n 0 (omega arith), le-ltb maxVertices n (omega arith))
 
--- the edges by rank are as many
-pub ranked-length : (o xs : List ℕ) {ranks : List ℕ} → ranks ≡ relabelled o xs → length ranks ≡ length xs
-ranked-length o xs e = ap length e ∙ relabelled-length o xs
+-- the edges by rank are as many, and none is at fault
+module _ {o xs ranks : List ℕ} (r : Runnable o xs) (e : ranks ≡ relabelled o xs) where
+  ranked-length : length ranks ≡ length xs
+  ranked-length = ap length e ∙ relabelled-length o xs
 
-pub ranked-count : (o xs : List ℕ) {ranks : List ℕ} → ranks ≡ relabelled o xs → length (edges ranks) ≡ length (edges xs)
-ranked-count o xs {ranks} e = edges-length ranks ∙ ap (λ (n : ℕ). n / 2) (ranked-length o xs e) ∙ sym (edges-length xs)
+  pub ranked-count : length (edges ranks) ≡ length (edges xs)
+  ranked-count = edges-length ranks ∙ ap (λ (n : ℕ). n / 2) ranked-length ∙ sym (edges-length xs)
+
+  pub ranked-even : length ranks % 2 ≡ 0
+  ranked-even = ap (λ (n : ℕ). n % 2) ranked-length ∙ r .even
+
+  pub ranked-faultless : firstFault (length o) (edges ranks) ≡ 0
+  ranked-faultless = ap (λ (ys : List ℕ). firstFault (length o) (edges ys)) e ∙ relabelled-faultless o (r .good) xs (r .faultless)
 
 -- the tables of growing's own
 pub record GrowWork (o xs inverse : List ℕ) (work : Work) : Type 0 where
@@ -63,22 +70,17 @@ module _ {o xs ranks p w v e j l : List ℕ} (r : Runnable o xs) (room : GrowRoo
         ap (λ (t : Outcome (Unit {0}) Tables). t .tables .out) relabels
         ∙ ap (λ (t : Tables). t .out) (unless-accepted (relabelRefusal o xs (length ranks) (length v)) (tables ranks v) (tables (relabelled o xs) (inverseOf o)) passes)
 
-    as-long : length ranks′ ≡ length xs
-    as-long = ranked-length o xs by-rank
-
     as-many : length (edges ranks′) ≡ length (edges xs)
-    as-many = ranked-count o xs by-rank
+    as-many = ranked-count r by-rank
 
     growable : Growable ranks′ (net p w) (workOf e j l)
     growable =
         record {
           some = omega (arith, r .some, room .parents);
           vertices = omega (arith, r .vertices, room .parents);
-          even = ap (λ (n : ℕ). n % 2) as-long ∙ r .even;
+          even = ranked-even r by-rank;
           few = omega (arith, r .few, as-many);
-          faultless =
-              ap₂ (λ (n : ℕ) (ys : List ℕ). firstFault n (edges ys)) (room .parents) by-rank
-              ∙ relabelled-faultless o (r .good) xs (r .faultless);
+          faultless = ap (λ (n : ℕ). firstFault n (edges ranks′)) (room .parents) ∙ ranked-faultless r by-rank;
           weights = room .weights ∙ sym (room .parents);
           ends = own .ends ∙ sym (room .parents);
           jump = own .jump ∙ sym (room .parents);

@@ -29,10 +29,10 @@ use Rattle.compare.specs.Compare.{wrongCompared, unlike}
 use Rattle.compare.proofs.Refused.{list-passes}
 use Rattle.report.specs.Report.{Written, Lent, wrongFigures, wrongLent, earlyRefusal, reportRefusal, figures, reportOutcome}
 use Rattle.report.proofs.Own.{same-passes}
-use Rattle.printing.specs.Lines.{refusedText, rankText, linesBelow, totalsText}
+use Rattle.printing.specs.Lines.{rankText, linesBelow, totalsText}
 use Rattle.printing.specs.Steps.{Columns, answerText, lineRoom, totalsRoom}
 use Rattle.files.specs.Files.{edgeCapacity}
-use Rattle.run.specs.Text.{reportText}
+use Rattle.run.specs.Text.{reportText, decidedText}
 use Rattle.run.specs.Steps.{Ready, netText, textRoom}
 use Rattle.run.proofs.Growing.{few-vertices}
 
@@ -44,8 +44,8 @@ first-before-zero (suc k) m e = refl
 
 -- what is printed of a report's answer, by its number
 by-number : (code : ℕ) (q : Verdict Totals) (t : Totals) (lines report : List ℕ) → q ≡ judged code t → (code ≡ 0 → lines ++ totalsText t ≡ report)
-    → answerText q lines ≡ unless code (refusedText code) report
-unfolding answerText unless judged
+    → answerText q lines ≡ decidedText code report
+unfolding answerText decidedText unless judged
 by-number zero q t lines report e h = ap (λ (a : Verdict Totals). answerText a lines) e ∙ h refl
 by-number (suc m) q t lines report e h = ap (λ (a : Verdict Totals). answerText a lines) e
 
@@ -71,16 +71,13 @@ pub record ReportRoom (n m k : ℕ) (was : Lent) : Type 0 where
   pub lower : length (was .work .lower) ≡ n + m
 
 module _ {o ranks : List ℕ} {B k : ℕ} {of : Net} (g : Ready o ranks B k of) where
-  es : List Edge
-  es = edges ranks
-
   vertices : length (of .parents) ≡ length o
-  unfolding netOf es
-  vertices = ap (λ (net : Net). length (net .parents)) (g .own) ∙ forest-length (length o) es
+  unfolding netOf
+  vertices = ap (λ (net : Net). length (net .parents)) (g .own) ∙ forest-length (length o) (edges ranks)
 
   weights : length (of .weights) ≡ length o
-  unfolding netOf es
-  weights = ap (λ (net : Net). length (net .weights)) (g .own) ∙ weights-length (length o) es
+  unfolding netOf
+  weights = ap (λ (net : Net). length (net .weights)) (g .own) ∙ weights-length (length o) (edges ranks)
 
   -- what writing the lines asks
   pub columns : {r t b c : List ℕ} → length r ≡ length o → length t ≡ length o → length b ≡ length o → length c ≡ length o
@@ -171,7 +168,7 @@ module _ {o ranks : List ℕ} {B k : ℕ} {of : Net} (g : Ready o ranks B k of) 
       unfolding netText code
       prints =
           by-number code q _ _ _ verdict-is accepted-text
-          ∙ ap (λ (net : Net). unless (given (tooHeavy B (net .weights)) 22) (refusedText (given (tooHeavy B (net .weights)) 22)) (reportText o (edges ranks) B k)) (g .own)
+          ∙ ap (λ (net : Net). decidedText (given (tooHeavy B (net .weights)) 22) (reportText o (edges ranks) B k)) (g .own)
 
       pub put-prints : {r t b c text text′ : List ℕ} {end : ℕ} → r ≡ new .written .reach → t ≡ new .written .division .top → b ≡ new .written .division .block
           → c ≡ new .written .blockCount → Put text 0 (answerText q (linesBelow (rankText o (of .parents) (of .weights) r t b c) (length o))) text′ end

@@ -48,6 +48,11 @@ module _ (most n : ℕ) (h : n ≤ most) (t : List ℕ) (kept : length t ≡ len
   pub front-counted : n ≡ length (take n (t ++ drop n (replicate most 0)))
   front-counted = sym front-length
 
+-- a table by vertex and edge
+by-both : (n : ℕ) (xs : List ℕ) → n + length xs / 2 ≤ vertexCapacity + edgeCapacity
+    → length (part (vertexCapacity + edgeCapacity) (n + length xs / 2)) ≡ n + length (edges xs)
+by-both n xs h = part-length (vertexCapacity + edgeCapacity) (n + length xs / 2) h ∙ ap (λ (m : ℕ). n + m) (sym (edges-length xs))
+
 -- the number of blocks is not refused, so it fits
 pub blocks-fit : (B k : ℕ) {blocks : ℕ} → badLimits B k ≡ false → blocks ≡ k → blocks ≤ maxBlocks
 blocks-fit B k good e = omega (arith, limits-not B k good .3)
@@ -60,20 +65,15 @@ module _ {o xs : List ℕ} (r : Runnable o xs) where
   pub both-fit : length o + length xs / 2 ≤ vertexCapacity + edgeCapacity
   both-fit = omega (arith, r .few, r .vertices, edges-length xs)
 
-  by-vertex : length (part vertexCapacity (length o)) ≡ length o
-  by-vertex = part-length vertexCapacity (length o) (r .vertices)
-
   pub grow-room : GrowRoom o xs (part endCapacity (length xs)) (net (part vertexCapacity (length o)) (part vertexCapacity (length o)))
-  grow-room = record { ranked = part-length endCapacity (length xs) ends-fit; parents = by-vertex; weights = by-vertex }
+  grow-room =
+      let v = part-length vertexCapacity (length o) (r .vertices) in
+      record { ranked = part-length endCapacity (length xs) ends-fit; parents = v; weights = v }
 
   pub grow-work : GrowWork o xs (part vertexCapacity (length o)) (workOf (part vertexCapacity (length o)) (part vertexCapacity (length o)) (part (vertexCapacity + edgeCapacity) (length o + length xs / 2)))
   grow-work =
-      record {
-        inverted = by-vertex;
-        ends = by-vertex;
-        jump = by-vertex;
-        lower = part-length (vertexCapacity + edgeCapacity) (length o + length xs / 2) both-fit ∙ ap (λ (m : ℕ). length o + m) (sym (edges-length xs));
-      }
+      let v = part-length vertexCapacity (length o) (r .vertices) in
+      record { inverted = v; ends = v; jump = v; lower = by-both (length o) xs both-fit }
 
 -- the tables of reporting
 module _ {o ranks : List ℕ} {B k : ℕ} {of : Net} (g : Ready o ranks B k of) where
@@ -83,9 +83,6 @@ module _ {o ranks : List ℕ} {B k : ℕ} {of : Net} (g : Ready o ranks B k of) 
   pub sum-fits : length o + length ranks / 2 ≤ vertexCapacity + edgeCapacity
   sum-fits = omega (arith, g .vertices, half-fits)
 
-  by-rank : length (part vertexCapacity (length o)) ≡ length o
-  by-rank = part-length vertexCapacity (length o) (g .vertices)
-
   pub report-room : {blocks : ℕ} → blocks ≡ k
       → ReportRoom (length o) (length (edges ranks)) k
       (lent
@@ -94,17 +91,18 @@ module _ {o ranks : List ℕ} {B k : ℕ} {of : Net} (g : Ready o ranks B k of) 
       (net (part vertexCapacity (length o)) (part vertexCapacity (length o)))
       (workOf (part vertexCapacity (length o)) (part vertexCapacity (length o)) (part (vertexCapacity + edgeCapacity) (length o + length ranks / 2))))
   report-room {blocks} is =
+      let v = part-length vertexCapacity (length o) (g .vertices) in
       record {
-        carried = by-rank;
-        top = by-rank;
-        block = by-rank;
+        carried = v;
+        top = v;
+        block = v;
         loads = part-length maxBlocks blocks (blocks-fit B k (g .limits) is) ∙ is;
         edge-blocks = part-length edgeCapacity (length ranks / 2) half-fits ∙ sym (edges-length ranks);
-        reach = by-rank;
-        block-count = by-rank;
-        compared-parents = by-rank;
-        compared-weights = by-rank;
-        ends = by-rank;
-        jump = by-rank;
-        lower = part-length (vertexCapacity + edgeCapacity) (length o + length ranks / 2) sum-fits ∙ ap (λ (m : ℕ). length o + m) (sym (edges-length ranks));
+        reach = v;
+        block-count = v;
+        compared-parents = v;
+        compared-weights = v;
+        ends = v;
+        jump = v;
+        lower = by-both (length o) ranks sum-fits;
       }

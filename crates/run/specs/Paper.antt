@@ -20,7 +20,7 @@ use Rattle.printing.specs.Lines.{refusedText, spaced, newlined, parentText, lin
 use Rattle.files.specs.Files.{files, vertexCount, edgeCount, order, edgeList, limit, blocks}
 use Rattle.files.specs.Refused.{tooMany, partRecord, notRecords, fileRefusal}
 use Rattle.run.specs.Run.{rankedEdges, runNet, runRefusal}
-use Rattle.run.specs.Text.{reportText, runText}
+use Rattle.run.specs.Text.{reportText, decidedText, runText}
 
 -- the order and the edges of the whole case
 marks : List ℕ
@@ -98,7 +98,7 @@ refusedRuns =
     ∷ []
 
 pub paper : computed ≡ printed
-unfolding computed printed marks ties want zeros ascii decimal runText runRefusal fileRefusal tooMany partRecord notRecords rankedEdges runNet vertexCount edgeCount order edgeList limit blocks refusedText spaced newlined parentText lineText rankText linesBelow totalsText reportText words wordAt bytesOf unless first given wrongLength badOrder badLimits firstFault edges fault tooHeavy netOf relabelled figures reach divided lower owner charge weight weights edgeBlocks edgeBlock blockCount different blocksAt filtered touches bound boundOf isCut volume volumeOf totalsOf tabulate sum count member
+unfolding computed printed marks ties want zeros ascii decimal runText runRefusal fileRefusal tooMany partRecord notRecords rankedEdges runNet vertexCount edgeCount order edgeList limit blocks refusedText spaced newlined parentText lineText rankText linesBelow totalsText reportText decidedText words wordAt bytesOf unless first given wrongLength badOrder badLimits firstFault edges fault tooHeavy netOf relabelled figures reach divided lower owner charge weight weights edgeBlocks edgeBlock blockCount different blocksAt filtered touches bound boundOf isCut volume volumeOf totalsOf tabulate sum count member
 paper = refl
 
 pub refused : refusedRuns ≡ 1 ∷ 1 ∷ 2 ∷ 2 ∷ 6 ∷ 6 ∷ 6 ∷ 3 ∷ 8 ∷ 8 ∷ 4 ∷ 5 ∷ []

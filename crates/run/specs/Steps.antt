@@ -7,13 +7,12 @@ use Prim.Native.Nat.{ℕ, _+_, _%_, _≤_, _<_, _*_}
 use lib.ListN.{length}
 use Rattle.game.specs.Edge.{Edge, edges}
 use Rattle.game.specs.Net.{Net, netOf}
-use Rattle.refusal.specs.Refusal.{given, unless, firstFault}
+use Rattle.refusal.specs.Refusal.{given, firstFault}
 use Rattle.relabel.specs.Relabel.{badOrder, relabelled}
 use Rattle.partition.specs.Divide.{badLimits, tooHeavy}
-use Rattle.printing.specs.Lines.{refusedText}
 use Rattle.printing.specs.Steps.{lineRoom, totalsRoom}
 use Rattle.files.specs.Files.{vertexCapacity, edgeCapacity}
-use Rattle.run.specs.Text.{reportText}
+use Rattle.run.specs.Text.{reportText, decidedText}
 
 -- the room of the text
 abbrev pub textRoom : ℕ
@@ -49,8 +48,6 @@ pub record Ready (o ranks : List ℕ) (B k : ℕ) (of : Net) : Type 0 where
   pub limits : badLimits B k ≡ false
   pub own : of ≡ netOf (length o) (edges ranks)
 
--- what is printed of the edges by rank, once nothing else is refused
+-- what is printed of an order and the edges by rank, once the files are not refused: 22, or the report
 unfoldable pub netText : (order : List ℕ) → List Edge → (B k : ℕ) → List ℕ
-netText order es B k =
-    let code : ℕ = given (tooHeavy B (netOf (length order) es .weights)) 22 in
-    unless code (refusedText code) (reportText order es B k)
+netText order es B k = decidedText (given (tooHeavy B (netOf (length order) es .weights)) 22) (reportText order es B k)

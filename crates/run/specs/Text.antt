@@ -21,6 +21,10 @@ reportText order es B k =
     linesBelow (rankText order (net .parents) (net .weights) (w .reach) (w .division .top) (w .division .block) (w .blockCount)) n
     ++ totalsText (totalsOf net es B k)
 
+-- what is printed where the number of a refusal decides: the refusal, or at 0 the report
+unfoldable pub decidedText : ℕ → List ℕ → List ℕ
+decidedText code report = unless code (refusedText code) report
+
 -- what a run prints
 unfoldable pub runText : Files → List ℕ
-runText f = unless (runRefusal f) (refusedText (runRefusal f)) (reportText (order f) (rankedEdges f) (limit f) (blocks f))
+runText f = decidedText (runRefusal f) (reportText (order f) (rankedEdges f) (limit f) (blocks f))

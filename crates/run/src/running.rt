@@ -18,7 +18,7 @@ ghost use Rattle.files.specs.Files.{files as filesOf};
 ghost use Rattle.run.specs.Text.{runText};
 ghost use Rattle.run.specs.Steps.{Runnable, GrowRoom, Grown, Ready, netText, textRoom};
 
-// The blocks of a division.
+// The most blocks of a division.
 const BLOCKS: usize = partition::MAX_BLOCKS as usize;
 
 // Vertices and edges together.
