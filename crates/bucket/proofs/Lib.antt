@@ -10,3 +10,4 @@ pub mod Placing
 pub mod Filing
 pub mod Reading
 pub mod Weighed
+pub mod Regrouped

@@ -1,98 +1,95 @@
--- Starting a net and adding a list of edges to it gives the net of the list: neither call is refused, where the list has no fault and
--- the tables fit.
+-- The net of a list of edges, grown into tables that held anything, and compared.
 -- Assumes nothing.
-use mathlib.Core.Path.{_≡_, refl, sym, ap, _∙_}
-use mathlib.Core.Bool.{Bool, true, false, _&&_}
-use mathlib.Core.List.{List, []}
-use Prim.Native.Nat.{ℕ, _+_}
+use mathlib.Core.Path.{_≡_, refl, sym, ap, ap₂, subst, _∙_}
+use mathlib.Core.Bool.{Bool, true, false, true≢false}
+use mathlib.Core.List.{List}
+use Prim.Native.Nat.{ℕ, _+_, _^_, _≤_, _<_}
 use native.Mathlib.Omega.{arith}
-use lib.ListN.{length}
+use lib.ListN.{length, getD, replicate, length-replicate, getD-replicate}
+use Rattle.game.specs.Table.{tabulate}
 use Rattle.game.specs.Edge.{Edge, edges}
-use Rattle.game.specs.Net.{Net, net, netOf, total}
-use Rattle.game.proofs.Proper.{proper-nil}
+use Rattle.game.specs.Game.{absent, forest}
+use Rattle.game.specs.Net.{Net, net, netOf, weight, weights}
+use Rattle.game.proofs.Tables.{tabulate-ext}
 use Rattle.game.proofs.Forest.{forest-length}
-use Rattle.game.proofs.Weights.{weights-length, weights-charges, charges-count}
+use Rattle.game.proofs.Weights.{weights-length}
+use Rattle.bucket.specs.Ends.{ending, tallied}
+use Rattle.bucket.specs.Filed.{Filed}
+use Rattle.bucket.proofs.Below.{ending-weight}
+use Rattle.bucket.proofs.Reading.{filed-consecutive}
+use Rattle.bucket.proofs.Tallied.{tallied-zeros}
 use Rattle.refusal.specs.Refusal.{firstFault}
-use Rattle.refusal.specs.Verdict.{Verdict}
-use Rattle.refusal.specs.Outcome.{Outcome, ended, decided}
-use Rattle.refusal.proofs.First.{even-list, unless-accepted}
-use Rattle.growth.specs.Work.{Work, workOf, Growing, growing, cleared}
-use Rattle.starting.specs.Start.{startRefusal, startOutcome}
-use Rattle.adding.specs.Add.{addOutcome}
-use Rattle.adding.proofs.Accepted.{Addable}
-use Rattle.forest.proofs.Passes.{start-passes, add-passes}
-use Rattle.forest.proofs.Promise.{valid-whole, net-valid}
-use Rattle.forest.proofs.Laws.{grown-net}
-use Rattle.compare.specs.Compare.{sameNet, sameTable, comparison, compared}
-use Rattle.compare.specs.Steps.{Growable, Comparable}
+use Rattle.growth.specs.Work.{Work, workOf, cleared}
+use Rattle.growth.specs.Growth.{Bare, Light, Grown}
+use Rattle.growth.proofs.Regrown.{grown-filed}
+use Rattle.compare.specs.Compare.{sameNet}
+use Rattle.compare.specs.Steps.{Growable, GrowsNet, Comparable, Compared}
 
--- what an accepted call leaves
-accepted-tables : {X A : Type 0} (k : ℕ) (values : X) (was new : A) {v : Verdict X} {t : A} → ended v t ≡ decided k values was new → k ≡ 0 → t ≡ new
-unfolding decided
-accepted-tables k values was new e z = ap (λ (o : Outcome _ _). o .tables) e ∙ unless-accepted k was new z
+-- tables of a size that fits, blank, and the edges filed: a forest can be grown
+module _ {xs p w e j l : List ℕ} (c : Growable xs (net p w) (workOf e j l)) {p′ w′ e′ l′ : List ℕ} (blank : p′ ≡ replicate (length p) absent)
+    (light : w′ ≡ replicate (length w) 0) (f : Filed (length e) (edges xs) e′ l′) (long : length l′ ≡ length l) where
+  filed : Filed (length p) (edges xs) e′ l′
+  filed = subst (λ (n : ℕ). Filed n (edges xs) e′ l′) (c .ends) f
 
-net-vertices : (n : ℕ) (es : List Edge) → length (netOf n es .parents) ≡ n
-unfolding netOf
-net-vertices n es = forest-length n es
+  small : length l′ < 2 ^ 32
+  small = omega (arith, long, c .lower, c .vertices, c .few)
 
-blank-total : (n : ℕ) → total (netOf n []) ≡ 0
-unfolding netOf
-blank-total n = weights-charges (proper-nil n) ∙ charges-count []
+  pub net-bare : Bare e′ l′ w′ p′ j
+  net-bare =
+      record {
+        blank = blank ∙ ap (λ (n : ℕ). replicate n absent) (sym (filed .long));
+        long-jump = c .jump ∙ sym (filed .long);
+        buckets = filed-consecutive filed (c .vertices);
+        light = record { light = λ v h. let n = rw light at h in omega (arith, ap (λ (t : List ℕ). getD t v 0) light, getD-replicate {A = ℕ} (length w) v 0 0 (omega (arith, ap length light, length-replicate {A = ℕ} (length w) 0)), small) };
+      }
 
--- the tables of no edge take the list
-blank-addable : {xs : List ℕ} {lent : Net} {work : Work} → Growable xs lent work → Addable (growing (netOf (length (lent .parents)) []) work) xs
-blank-addable {xs} {lent} {work} c =
-    let n = length (lent .parents) in
-    let v = net-valid (c .some) (c .vertices) (proper-nil n) (omega (arith, charges-count [])) in
-    let vertices = net-vertices n [] in
-    record {
-      net = valid-whole v;
-      work = record { ends = c .ends ∙ sym vertices; jump = c .jump ∙ sym vertices; lower = c .lower ∙ ap (λ (m : ℕ). m + length (edges xs)) (sym vertices) };
-      even = even-list xs (c .even);
-      faultless = ap (λ (m : ℕ). firstFault m (edges xs)) vertices ∙ c .faultless;
-      light = omega (arith, blank-total n, charges-count (edges xs), c .few);
-    }
-
--- starting, then adding
-module _ {p w xs e j l : List ℕ} (c : Growable xs (net p w) (workOf e j l)) where
-  started : {m : Verdict (Unit {0})} {p′ w′ : List ℕ} → ended m (net p′ w′) ≡ startOutcome (net p w) → net p′ w′ ≡ netOf (length p) []
-  unfolding startOutcome
-  started o =
-      accepted-tables (startRefusal (net p w)) tt (net p w) (netOf (length p) []) o (start-passes (record { some = c .some; few = c .vertices; long = c .weights }))
-
-  pub grown-tables : {m m′ : Verdict (Unit {0})} {p′ w′ p″ w″ e″ j″ l″ : List ℕ} → ended m (net p′ w′) ≡ startOutcome (net p w)
-      → ended m′ (growing (net p″ w″) (workOf e″ j″ l″)) ≡ addOutcome (growing (net p′ w′) (workOf e j l)) xs
-      → growing (net p″ w″) (workOf e″ j″ l″) ≡ growing (netOf (length p) (edges xs)) (cleared (workOf e j l))
-  unfolding addOutcome
-  grown-tables s a =
-      accepted-tables _ _ _ _ (a ∙ ap (λ (of : Net). addOutcome (growing of (workOf e j l)) xs) (started s)) (add-passes (blank-addable c))
-      ∙ ap (λ (of : Net). growing of (cleared (workOf e j l))) (grown-net (edges xs) (omega (arith, c .vertices)) (proper-nil (length p)))
+  -- and it is the net of the edges
+  pub net-grown : {p″ w″ j″ l″ : List ℕ} → Grown e′ l′ w′ p″ w″ → l″ ≡ l′ → GrowsNet xs (net p w) (net p″ w″) (workOf e′ j″ l″)
+  unfolding netOf weights
+  net-grown {p″} {w″} g kept =
+      let (a, b) = grown-filed filed g in
+      record {
+        is = ap₂ net a (b ∙ zeros);
+        filed = subst (Filed (length p) (edges xs) e′) (sym kept) filed;
+      }
+    where
+      zeros : tallied false (edges xs) w′ ≡ tabulate (length p) (weight (edges xs))
+      zeros =
+          ap (tallied false (edges xs)) (light ∙ ap (λ (n : ℕ). replicate n 0) (c .weights)) ∙ tallied-zeros false (length p) (edges xs)
+          ∙ tabulate-ext (length p) (ending false (edges xs)) (weight (edges xs)) (λ v h. ending-weight (edges xs) v)
 
 -- what comparing leaves, once the edges' net is grown
 module _ {p w xs cp cw e j l : List ℕ} (c : Comparable (net p w) xs (net cp cw) (workOf e j l)) {cp′ cw′ e′ j′ l′ : List ℕ}
-    (g : growing (net cp′ cw′) (workOf e′ j′ l′) ≡ growing (netOf (length cp) (edges xs)) (cleared (workOf e j l))) where
+    (g : GrowsNet xs (net cp cw) (net cp′ cw′) (workOf e′ j′ l′)) where
   net-is : net cp′ cw′ ≡ netOf (length p) (edges xs)
-  net-is = ap (λ (o : Growing). o .net) g ∙ ap (λ (n : ℕ). netOf n (edges xs)) (sym (c .parents))
+  net-is = g .is ∙ ap (λ (n : ℕ). netOf n (edges xs)) (sym (c .parents))
 
-  pub parents-fit : length p ≡ length cp′
+  pub tables-fit : (length p ≡ length cp′) × (length w ≡ length cw′)
   unfolding netOf
-  parents-fit = sym (ap (λ (of : Net). length (of .parents)) net-is ∙ forest-length (length p) (edges xs))
+  tables-fit = (
+    sym (ap (λ (of : Net). length (of .parents)) net-is ∙ forest-length (length p) (edges xs)),
+    c .weights ∙ sym (c .parents) ∙ sym (ap (λ (of : Net). length (of .weights)) net-is ∙ weights-length (length p) (edges xs)),
+  )
 
-  pub weights-fit : length w ≡ length cw′
-  unfolding netOf
-  weights-fit = c .weights ∙ sym (c .parents) ∙ sym (ap (λ (of : Net). length (of .weights)) net-is ∙ weights-length (length p) (edges xs))
+  answers : {r : Bool} → r ≡ sameNet (net p w) (net cp′ cw′) → r ≡ sameNet (net p w) (netOf (length p) (edges xs))
+  answers s = s ∙ ap (sameNet (net p w)) net-is
 
-  ends-compared : {b : Bool} → b ≡ (sameTable p cp′ && sameTable w cw′)
-      → comparison b (net cp′ cw′) (workOf e′ j′ l′) ≡ compared (net p w) (edges xs) (workOf e j l)
-  unfolding compared sameNet
-  ends-compared d =
-      λ i. comparison ((d ∙ ap (λ (of : Net). sameTable p (of .parents) && sameTable w (of .weights)) net-is) i) (net-is i) (ap (λ (o : Growing). o .work) g i)
+  -- the list is the net's own
+  pub compared-same : {r : Bool} → r ≡ sameNet (net p w) (net cp′ cw′) → r ≡ true → Compared (net p w) (edges xs) (workOf e j l) true (net cp′ cw′) (workOf e′ j′ l′)
+  compared-same s t =
+      record {
+        answer = sym t ∙ answers s;
+        net = net-is;
+        filed = λ q. subst (λ (n : ℕ). Filed n (edges xs) e′ l′) (sym (c .parents)) (g .filed);
+        clear = λ q. absurd (true≢false q);
+      }
 
-  -- the parents differ
-  pub compared-parents : false ≡ sameTable p cp′ → comparison false (net cp′ cw′) (workOf e′ j′ l′) ≡ compared (net p w) (edges xs) (workOf e j l)
-  compared-parents d = ends-compared (rw (← d) refl)
-
-  -- they are the same, and the weights decide
-  pub compared-weights : true ≡ sameTable p cp′ → {b : Bool} → b ≡ sameTable w cw′
-      → comparison b (net cp′ cw′) (workOf e′ j′ l′) ≡ compared (net p w) (edges xs) (workOf e j l)
-  compared-weights d q = ends-compared (rw (← d) q)
+  -- or it is not, and the work tables are cleared
+  pub compared-other : {r : Bool} {work : Work} → r ≡ sameNet (net p w) (net cp′ cw′) → r ≡ false → work ≡ cleared (workOf e j l) → Compared (net p w) (edges xs) (workOf e j l) false (net cp′ cw′) work
+  compared-other s t k =
+      record {
+        answer = sym t ∙ answers s;
+        net = net-is;
+        filed = λ q. absurd (true≢false (sym q));
+        clear = λ q. k;
+      }

@@ -2,7 +2,6 @@
 --
 -- Document 01: "Two comparison tables, lent for it, end holding the parents and loads of the ties given"; refusal 23: "the ties
 -- reported on have other parents or loads than the net". Another list with the same parents and weights is not told apart.
--- The edges' net is grown into the comparison tables by the calls Start and Add, which take work tables and leave zeros in them.
 -- Assumes nothing.
 use mathlib.Core.Bool.{Bool, true, false, not, _&&_, _||_}
 use mathlib.Core.List.{List, [], _∷_}
@@ -13,7 +12,7 @@ use Rattle.game.specs.Edge.{Edge, edges}
 use Rattle.game.specs.Net.{Net, netOf}
 use Rattle.refusal.specs.Limits.{maxEdges}
 use Rattle.refusal.specs.Refusal.{given, first, wrongLength, firstFault}
-use Rattle.growth.specs.Work.{Work, badWork, cleared}
+use Rattle.growth.specs.Work.{Work, badWork}
 
 -- 2, of the comparison tables, with n entries each, and of the work tables, for n vertices and m edges
 unfoldable pub wrongCompared : ℕ → ℕ → Net → Work → Bool
@@ -33,20 +32,6 @@ sameTable (x ∷ xs) (y ∷ ys) = eqb x y && sameTable xs ys
 
 unfoldable pub sameNet : Net → Net → Bool
 sameNet one other = sameTable (one .parents) (other .parents) && sameTable (one .weights) (other .weights)
-
--- what comparing answers and leaves: whether the two nets are one, the comparison tables, and the work tables
-pub record Comparison : Type 0 where
-  pub same : Bool
-  pub net : Net
-  pub work : Work
-
-abbrev pub comparison : Bool → Net → Work → Comparison
-comparison same net work = record { same = same; net = net; work = work }
-
-unfoldable pub compared : Net → List Edge → Work → Comparison
-compared of es work =
-    let net : Net = netOf (length (of .parents)) es in
-    comparison (sameNet of net) net (cleared work)
 
 -- 23: "the ties reported on have other parents or loads than the net"
 unfoldable pub unlike : Net → List Edge → ℕ

@@ -1,20 +1,21 @@
 -- What the steps of comparing promise each other, and what comparing asks of its caller. No public promise speaks of it.
 -- Assumes nothing.
 use mathlib.Core.Path.{_≡_}
+use mathlib.Core.Bool.{Bool, true, false}
 use mathlib.Core.List.{List}
-use Prim.Native.Nat.{ℕ, _+_, _%_, _≤_, _<_}
+use Prim.Native.Nat.{ℕ, _+_, _≤_}
 use lib.ListN.{length}
-use Rattle.game.specs.Edge.{edges}
-use Rattle.game.specs.Net.{Net}
+use Rattle.game.specs.Edge.{Edge, edges}
+use Rattle.game.specs.Net.{Net, netOf}
 use Rattle.refusal.specs.Limits.{maxVertices, maxEdges}
 use Rattle.refusal.specs.Refusal.{firstFault}
-use Rattle.growth.specs.Work.{Work}
+use Rattle.bucket.specs.Filed.{Filed}
+use Rattle.growth.specs.Work.{Work, cleared}
+use Rattle.compare.specs.Compare.{sameNet}
 
 -- what growing is given: a list of edges without a fault, within document 01's limits, and tables that fit
 pub record Growable (xs : List ℕ) (lent : Net) (work : Work) : Type 0 where
-  pub some : 0 < length (lent .parents)
   pub vertices : length (lent .parents) ≤ maxVertices
-  pub even : length xs % 2 ≡ 0
   pub few : length (edges xs) ≤ maxEdges
   pub faultless : firstFault (length (lent .parents)) (edges xs) ≡ 0
   pub weights : length (lent .weights) ≡ length (lent .parents)
@@ -22,8 +23,21 @@ pub record Growable (xs : List ℕ) (lent : Net) (work : Work) : Type 0 where
   pub jump : length (work .jump) ≡ length (lent .parents)
   pub lower : length (work .lower) ≡ length (lent .parents) + length (edges xs)
 
+-- what it leaves: the net of the edges, which stay filed
+pub record GrowsNet (xs : List ℕ) (lent grown : Net) (work : Work) : Type 0 where
+  pub is : grown ≡ netOf (length (lent .parents)) (edges xs)
+  pub filed : Filed (length (lent .parents)) (edges xs) (work .ends) (work .lower)
+
 -- what comparing is given: that, for a net of as many vertices
 pub record Comparable (of : Net) (xs : List ℕ) (lent : Net) (work : Work) : Type 0 where
   pub growable : Growable xs lent work
   pub parents : length (of .parents) ≡ length (lent .parents)
   pub weights : length (of .weights) ≡ length (lent .parents)
+
+-- What it answers and leaves: whether the edges' net is the net, and the edges' net in the comparison tables. A list that is the net's own
+-- stays filed for who reads it next; else the work tables are cleared.
+pub record Compared (of : Net) (es : List Edge) (was : Work) (same : Bool) (grown : Net) (work : Work) : Type 0 where
+  pub answer : same ≡ sameNet of (netOf (length (of .parents)) es)
+  pub net : grown ≡ netOf (length (of .parents)) es
+  pub filed : same ≡ true → Filed (length (of .parents)) es (work .ends) (work .lower)
+  pub clear : same ≡ false → work ≡ cleared was

@@ -1,14 +1,15 @@
 // Comparing a net with edges that are said to be its own: what such a list is refused for, its net grown into comparison tables, and
 // whether that is the net.
+use net::Net;
 ghost use mathlib.Core.Path.{_≡_};
 ghost use mathlib.Core.Bool.{_||_};
 ghost use lib.ListN.{length};
 ghost use Rattle.game.specs.Edge.{edges as edgesOf};
-ghost use Rattle.game.specs.Net.{net, netOf};
+ghost use Rattle.game.specs.Net.{net};
 ghost use Rattle.refusal.specs.Refusal.{wrongLength};
-ghost use Rattle.growth.specs.Work.{workOf, growing, cleared};
-ghost use Rattle.compare.specs.Compare.{sameTable, comparison, compared, listRefusal};
-ghost use Rattle.compare.specs.Steps.{Growable, Comparable};
+ghost use Rattle.growth.specs.Work.{workOf};
+ghost use Rattle.compare.specs.Compare.{sameTable, sameNet, listRefusal};
+ghost use Rattle.compare.specs.Steps.{Growable, GrowsNet, Comparable, Compared};
 
 // Refusal 2 of the comparison tables and the work tables, by their lengths: n vertices, and `both` for vertices and edges together.
 pub fn wrong_compared(
@@ -54,7 +55,7 @@ fn same_table(one: &[u32], other: &[u32]) -> bool
     true
 }
 
-// Grows the net of a list of edges, whatever the tables held: a net is started, and the edges are added to it.
+// Grows the net of a list of edges, whatever the tables held. The edges stay filed.
 fn grow_net(
     edges: &[u32],
     parents: &mut [u32],
@@ -64,16 +65,28 @@ fn grow_net(
     lower: &mut [u32],
 )
     requires { ⌜ Growable (now edges) (net (now parents) (now weights)) (workOf (now ends) (now jump) (now lower)) ⌝ }
-    ensures { λ _. ⌜
-        growing (net (now (parents .exit)) (now (weights .exit))) (workOf (now (ends .exit)) (now (jump .exit)) (now (lower .exit)))
-        ≡ growing (netOf (length (now (parents .entry))) (edgesOf (now (edges .entry))))
-        (cleared (workOf (now (ends .entry)) (now (jump .entry)) (now (lower .entry)))) ⌝ }
+    ensures { λ _. ⌜ GrowsNet (now (edges .entry)) (net (now (parents .entry)) (now (weights .entry))) (net (now (parents .exit)) (now (weights .exit)))
+        (workOf (now (ends .exit)) (now (jump .exit)) (now (lower .exit))) ⌝ }
 {
-    forest::start(parents, weights);
-    forest::add(parents, weights, edges, ends, jump, lower);
+    table::fill(parents, Net::ABSENT);
+    table::fill(weights, 0);
+    bucket::file_list(edges, ends, lower);
+    growth::grow_kept(parents, weights, ends, jump, lower);
 }
 
-// Grows the net of a list of edges into the comparison tables, and says whether it is the net. The work tables end as zeros.
+// Whether two nets of one size are the same.
+fn same_net(parents: &[u32], weights: &[u32], other_parents: &[u32], other_weights: &[u32]) -> bool
+    requires { ⌜ (length (now parents) ≡ length (now «other_parents»)) × (length (now weights) ≡ length (now «other_weights»)) ⌝ }
+    ensures { λ r. ⌜ r ≡ sameNet (net (now (parents .entry)) (now (weights .entry))) (net (now («other_parents» .entry)) (now («other_weights» .entry))) ⌝ }
+{
+    if !same_table(parents, other_parents) {
+        return false;
+    }
+    same_table(weights, other_weights)
+}
+
+// Grows the net of a list of edges into the comparison tables, and says whether it is the net. A list that is the net's own stays filed
+// for who reads it next; else the work tables end as zeros.
 pub fn compare(
     parents: &[u32],
     weights: &[u32],
@@ -86,14 +99,13 @@ pub fn compare(
 ) -> bool
     requires { ⌜ Comparable (net (now parents) (now weights)) (now edges) (net (now «compared_parents») (now «compared_weights»))
         (workOf (now ends) (now jump) (now lower)) ⌝ }
-    ensures { λ r. ⌜
-        comparison r (net (now («compared_parents» .exit)) (now («compared_weights» .exit))) (workOf (now (ends .exit)) (now (jump .exit)) (now (lower .exit)))
-        ≡ compared (net (now (parents .entry)) (now (weights .entry))) (edgesOf (now (edges .entry)))
-        (workOf (now (ends .entry)) (now (jump .entry)) (now (lower .entry))) ⌝ }
+    ensures { λ r. ⌜ Compared (net (now (parents .entry)) (now (weights .entry))) (edgesOf (now (edges .entry))) (workOf (now (ends .entry)) (now (jump .entry)) (now (lower .entry)))
+        r (net (now («compared_parents» .exit)) (now («compared_weights» .exit))) (workOf (now (ends .exit)) (now (jump .exit)) (now (lower .exit))) ⌝ }
 {
     grow_net(edges, compared_parents, compared_weights, ends, jump, lower);
-    if !same_table(parents, compared_parents) {
-        return false;
+    if same_net(parents, weights, compared_parents, compared_weights) {
+        return true;
     }
-    same_table(weights, compared_weights)
+    growth::clear(ends, jump, lower, 0);
+    false
 }

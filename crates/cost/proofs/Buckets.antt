@@ -21,8 +21,8 @@ use Rattle.game.proofs.Weights.{weight-count}
 use Rattle.refusal.specs.Limits.{maxVertices}
 use Rattle.bucket.specs.Ends.{below}
 use Rattle.bucket.specs.Filed.{begin, bucketOf, Filed}
-use Rattle.bucket.proofs.Below.{below-zero, below-mono}
-use Rattle.bucket.proofs.Reading.{filed-begin, filed-end, filed-holds, filed-has}
+use Rattle.bucket.proofs.Below.{below-zero}
+use Rattle.bucket.proofs.Reading.{filed-consecutive, filed-begin, filed-end, filed-holds, filed-has}
 use Rattle.packing.specs.Pack.{maxBlocks}
 use Rattle.groups.proofs.Lists.{test-cases}
 use Rattle.cost.specs.Figures.{different, blocksAt, blockCount}
@@ -64,15 +64,15 @@ module _ {ends lower weights block table₀ stamps₀ : List ℕ} (b : Bucketed 
   module _ {table stamps : List ℕ} {at y : ℕ} (t : CountTurn ends lower weights block (length stamps₀) table stamps at y) (h : y < length ends)
       {end : ℕ} (e : end ≡ getD ends y 0) where
     pub turn-order : at ≤ end
-    turn-order = omega (arith, t .start, b .rising y h)
+    turn-order = omega (arith, t .start, b .buckets .rising y h)
 
     pub turn-room : end ≤ length lower
-    turn-room = omega (arith, b .room y h)
+    turn-room = omega (arith, b .buckets .room y h)
 
     pub turn-meets : Meets y (part at end lower) block stamps
     turn-meets = record {
       inside = omega (arith, b .blocked);
-      few = omega (arith, b .blocked, b .few);
+      few = omega (arith, b .blocked, b .buckets .few);
       neighbours = λ i l.
           let r : i < end - at = omega (arith, part-length at end lower turn-room) in
           omega (arith, part-entry at end i lower r, b .neighbours y (at + i) h (omega arith), b .blocked);
@@ -166,9 +166,7 @@ module _ {n : ℕ} {es : List Edge} {ends lower : List ℕ} (f : Filed n es ends
       → ((x : ℕ) → x < n → getD block x 0 < length stamps) → length stamps ≤ maxBlocks → Fresh stamps 1
       → Bucketed ends lower weights block table stamps
   filed-bucketed few weighed blocked table blocks small fresh = record {
-    few = omega (arith, f .long);
-    rising = λ y h. let l : y < n = omega (arith, f .long) in omega (arith, filed-begin f y (omega arith), f .end-at y l, below-mono y (y + 1) es (omega arith));
-    room = λ y h. let l : y < n = omega (arith, f .long) in omega (arith, filed-end f y l, f .fits);
+    buckets = filed-consecutive f few;
     neighbours = λ y i h l. let g : y < n = omega (arith, f .long) in omega (arith, inside y i g (omega (arith, f .end-at y g)), f .long);
     weighed = weighed ∙ sym (f .long);
     blocked = blocked ∙ sym (f .long);

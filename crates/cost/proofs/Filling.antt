@@ -1,6 +1,7 @@
 -- Writing the block of each edge, in the order of the list: where the loop stands, and its turns.
 -- Assumes nothing.
 use mathlib.Core.Path.{_≡_, refl, sym, ap, ap₂, _∙_}
+use mathlib.Core.Bool.{false}
 use mathlib.Core.List.{List, [], _∷_, _++_, append-nil, append-assoc}
 use Prim.Native.Nat.{ℕ, _+_, _≤_, _<_}
 use native.Mathlib.Nat.{min-le-left}
@@ -9,6 +10,7 @@ use native.Mathlib.Omega.{arith}
 use lib.ListN.{length, getD, set, take, drop, length-set}
 use lib.Seq.{take-suc-set, take-all}
 use Rattle.game.specs.Edge.{Edge, _─_, lower, edges}
+use Rattle.bucket.specs.Ends.{endOf}
 use Rattle.game.proofs.Edges.{edges-drop, edges-end, edges-length}
 use Rattle.refusal.specs.Refusal.{fault, firstFault}
 use Rattle.refusal.proofs.First.{first-none, first-last}
@@ -49,13 +51,13 @@ module _ {xs block out : List ℕ} {i at : ℕ} (t : FillTurn xs block out i at)
         (f .0, sym (first-last (firstFault (length block) (edges (drop (at + 2) xs)))) ∙ f .1)
 
     -- its lower end is a vertex
-    pub fill-lower : lower (getD xs at 0 ─ getD xs (at + 1) 0) < length block
-    unfolding lower a b
+    pub fill-lower : endOf false (getD xs at 0 ─ getD xs (at + 1) 0) < length block
+    unfolding endOf lower a b
     fill-lower = let k = faultless (length block) a b (sound .0) in omega (arith, k .0, min-le-left a b)
 
-    pub fill-step : {v : ℕ} {out′ : List ℕ} → v ≡ getD block (lower (getD xs at 0 ─ getD xs (at + 1) 0)) 0 → out′ ≡ set out i v
+    pub fill-step : {v : ℕ} {out′ : List ℕ} → v ≡ getD block (endOf false (getD xs at 0 ─ getD xs (at + 1) 0)) 0 → out′ ≡ set out i v
         → FillTurn xs block out′ (i + 1) (at + 2)
-    unfolding edgeBlocks edgeBlock a b
+    unfolding edgeBlocks edgeBlock endOf a b
     fill-step {v} {out′} e q = record {
       within = omega (arith, longer);
       twice = omega (arith, t .twice);

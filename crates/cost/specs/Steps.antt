@@ -5,15 +5,14 @@ use mathlib.Core.Bool.{cond}
 use mathlib.Core.List.{List, [], _∷_, _++_, map}
 use Prim.Native.Nat.{ℕ, zero, suc, _+_, _-_, _≤_, _<_}
 use lib.Dec.{eqb}
-use lib.ListN.{length, getD, replicate}
+use lib.ListN.{length, getD}
 use Rattle.game.specs.Table.{tabulate, sum, member}
-use Rattle.game.specs.Edge.{edges}
+use Rattle.game.specs.Edge.{Edge}
 use Rattle.game.specs.Net.{reach, weights as weightsOf}
-use Rattle.refusal.specs.Limits.{maxVertices, maxEdges}
-use Rattle.refusal.specs.Refusal.{firstFault}
-use Rattle.bucket.specs.Filed.{begin, bucketOf}
+use Rattle.refusal.specs.Limits.{maxVertices}
+use Rattle.bucket.specs.Filed.{Consecutive, bucketOf, Filed}
 use Rattle.packing.specs.Pack.{maxBlocks}
-use Rattle.cost.specs.Figures.{different, blockCount, isCut}
+use Rattle.cost.specs.Figures.{different, isCut}
 
 -- the block of a vertex that has a weight, that is, a higher neighbour
 unfoldable pub ownBlock : ℕ → ℕ → List ℕ
@@ -45,9 +44,7 @@ pub record Meets (y : ℕ) (lower block stamps : List ℕ) : Type 0 where
 
 -- What counting is given: buckets of lower neighbours, the weight and the block of each vertex, and a stamp for each block.
 pub record Bucketed (ends lower weights block blockCount stamps : List ℕ) : Type 0 where
-  pub few : length ends ≤ maxVertices
-  pub rising : (y : ℕ) → y < length ends → begin ends y ≤ getD ends y 0
-  pub room : (y : ℕ) → y < length ends → getD ends y 0 ≤ length lower
+  pub buckets : Consecutive ends lower
   pub neighbours : (y i : ℕ) → y < length ends → i < getD ends y 0 → getD lower i 0 < length ends
   pub weighed : length weights ≡ length ends
   pub blocked : length block ≡ length ends
@@ -60,22 +57,14 @@ pub record Bucketed (ends lower weights block blockCount stamps : List ℕ) : Ty
 unfoldable pub countIn : List ℕ → List ℕ → List ℕ → List ℕ → ℕ → ℕ → ℕ
 countIn ends lower weights block k y = different k (metBlocks block y (getD weights y 0) (bucketOf ends lower y))
 
--- What writing the block counts is given: the edges of a net, its weights, a block for each vertex, and tables that fit.
-pub record Countable (xs weights block blockCount ends lower : List ℕ) : Type 0 where
+-- What writing the block counts is given: the edges of a net, filed by their upper end, its weights, a block for each vertex, and a
+-- table that fits.
+pub record Countable (es : List Edge) (weights block ends lower blockCount : List ℕ) : Type 0 where
   pub few : length block ≤ maxVertices
-  pub faultless : firstFault (length block) (edges xs) ≡ 0
-  pub weighed : weights ≡ weightsOf (length block) (edges xs)
+  pub filed : Filed (length block) es ends lower
+  pub weighed : weights ≡ weightsOf (length block) es
   pub blocks : (x : ℕ) → x < length block → getD block x 0 < maxBlocks
   pub table : length blockCount ≡ length block
-  pub ends-fit : length ends ≡ length block
-  pub lower-fits : length lower ≡ length block + length (edges xs)
-  pub small : length (edges xs) ≤ maxEdges
-
--- what it leaves
-pub record CountedBlocks (xs block ends lower blockCount′ ends′ lower′ : List ℕ) : Type 0 where
-  pub counts : blockCount′ ≡ tabulate (length block) (blockCount maxBlocks block (edges xs))
-  pub clear-ends : ends′ ≡ replicate (length ends) 0
-  pub clear-lower : lower′ ≡ replicate (length lower) 0
 
 -- the bound and the volume, by the tables of a report: what each vertex adds, and the sums
 unfoldable pub boundTerm : List ℕ → List ℕ → List ℕ → ℕ → ℕ

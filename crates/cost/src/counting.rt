@@ -3,18 +3,19 @@
 // The edges of a vertex that lead up are all of its own block; those that lead down are of the blocks of its lower neighbours. So with
 // the edges filed by their upper end, one pass over each vertex's bucket tells its block count. A block is met by a vertex when it has
 // the vertex's stamp.
-use net::Net;
 use table::wide;
 ghost use mathlib.Core.Path.{_≡_};
 ghost use mathlib.Core.Bool.{cond};
+ghost use mathlib.Core.List.{List};
 ghost use Prim.Native.Nat.{_+_, _<_};
 ghost use lib.Dec.{eqb};
 ghost use lib.ListN.{length, getD, set};
-ghost use Rattle.game.specs.Edge.{edges as edgesOf, _─_, lower as lowerOf};
+ghost use Rattle.game.specs.Edge.{Edge, edges as edgesOf};
 ghost use Rattle.game.specs.Table.{tabulate};
 ghost use Rattle.refusal.specs.Refusal.{firstFault};
-ghost use Rattle.cost.specs.Figures.{edgeBlocks};
-ghost use Rattle.cost.specs.Steps.{ownBlock, metBlocks, Fresh, Stamped, Meets, Bucketed, countIn, Countable, CountedBlocks};
+ghost use Rattle.packing.specs.Pack.{maxBlocks};
+ghost use Rattle.cost.specs.Figures.{edgeBlocks, blockCount};
+ghost use Rattle.cost.specs.Steps.{ownBlock, metBlocks, Fresh, Stamped, Meets, Bucketed, countIn, Countable};
 
 // Stamps a block. Answers 1 if it did not have the stamp, else 0.
 fn meet(block: u32, stamp: u32, stamps: &mut [u32]) -> u32
@@ -80,32 +81,20 @@ fn count_blocks(
 // A stamp for each block.
 const STAMPS: usize = partition::MAX_BLOCKS as usize;
 
-// Writes the block count of each vertex. The edges are filed into the work tables, which end as zeros; until the counts are written,
-// their table stands for a forest without links.
+// Writes the block count of each vertex, from edges that are filed by their upper end.
 pub fn write_block_counts(
-    edges: &[u32],
     weights: &[u32],
     block: &[u32],
+    ends: &[u32],
+    lower: &[u32],
     block_count: &mut [u32],
-    ends: &mut [u32],
-    lower: &mut [u32],
 )
-    requires { ⌜ Countable (now edges) (now weights) (now block) (now «block_count») (now ends) (now lower) ⌝ }
-    ensures { λ _. ⌜ CountedBlocks (now (edges .entry)) (now (block .entry)) (now (ends .entry)) (now (lower .entry)) (now («block_count» .exit)) (now (ends .exit)) (now (lower .exit)) ⌝ }
+    requires { ⌜ ((es : List Edge) × Countable es (now weights) (now block) (now ends) (now lower) (now «block_count»)) ⌝ }
+    ensures { λ _. ⌜ ((es : List Edge) → Countable es (now (weights .entry)) (now (block .entry)) (now (ends .entry)) (now (lower .entry)) (now («block_count» .entry))
+        → now («block_count» .exit) ≡ tabulate (length (now (block .entry))) (blockCount maxBlocks (now (block .entry)) es)) ⌝ }
 {
-    table::fill(block_count, Net::ABSENT);
-    bucket::file_edges(block_count, edges, ends, lower);
     let mut stamps = [0u32; STAMPS];
     count_blocks(weights, block, ends, lower, block_count, &mut stamps);
-    table::fill(ends, 0);
-    table::fill(lower, 0);
-}
-
-// The lower end of an edge.
-fn lower_end(a: u32, b: u32) -> u32
-    ensures { λ r. ⌜ r ≡ lowerOf (a ─ b) ⌝ }
-{
-    if a < b { a } else { b }
 }
 
 // Writes the block of each edge: that of its lower end.
@@ -117,7 +106,7 @@ pub fn write_edge_blocks(edges: &[u32], block: &[u32], edge_blocks: &mut [u32])
     let mut i = 0;
     let mut at = 0;
     while i < edge_blocks.len() {
-        edge_blocks[i] = block[wide(lower_end(edges[at], edges[at + 1]))];
+        edge_blocks[i] = block[wide(bucket::end_of(false, edges[at], edges[at + 1]))];
         i += 1;
         at += 2;
     }

@@ -1,3 +1,4 @@
 pub mod Laws
 pub mod Passes
 pub mod Promise
+pub mod FirstList

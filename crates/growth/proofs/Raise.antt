@@ -3,13 +3,13 @@
 -- Assumes nothing.
 use mathlib.Core.Path.{_≡_, refl, sym, subst, _∙_}
 use mathlib.Core.Logic.{_≢_, inl, inr, ⊎-elim, by-cases}
+use mathlib.Core.Bool.{Bool}
 use mathlib.Core.List.{List, List·Memᴰ}
-use Prim.Native.Nat.{ℕ, _+_, _-_, _≤_, _<_}
+use Prim.Native.Nat.{ℕ, _+_, _≤_, _<_}
 use native.Mathlib.Nat.{le-refl, le-of-lt}
-use native.Mathlib.Numerals.{add-one}
 use native.Mathlib.Omega.{arith}
 use native.Mathlib.Decide.{ℕ-discrete}
-use lib.ListN.{length, getD, take, drop, replicate, length-replicate, getD-replicate}
+use lib.ListN.{length, getD, replicate, length-replicate, getD-replicate}
 use Rattle.game.specs.Edge.{Edge, _─_}
 use Rattle.game.specs.Game.{absent, forest}
 use Rattle.game.specs.Tree.{links}
@@ -19,7 +19,7 @@ use Rattle.game.proofs.Within.{within-up, conn-below}
 use Rattle.game.proofs.Sound.{Sound}
 use Rattle.game.proofs.Links.{link-of, link-inv, link-up, links-proper}
 use Rattle.game.proofs.Forest.{forest-unique}
-use Rattle.bucket.specs.Filed.{begin, bucketOf, lowerEnds, Filed}
+use Rattle.bucket.specs.Filed.{lowerEnds}
 use Rattle.bucket.proofs.LowerEnds.{lower-ends-linked, linked-lower-ends}
 use Rattle.growth.specs.Growth.{Above, Known, known, passed, Child, Standing, Kept, Climbed, Climbs, Offers, Gathered, Gathers, Raised}
 
@@ -95,15 +95,6 @@ offers-own {E = E} proper y = record {
       (low, conn-step l (le-of-lt low) (le-refl y));
 }
 
--- where the buckets begin, one behind the other, and what stands there
-pub begin-next : (ends : List ℕ) (y : ℕ) → begin ends (y + 1) ≡ getD ends y 0
-unfolding begin
-begin-next ends y = rw add-one refl
-
-pub filed-part : {n y at end : ℕ} {E : List Edge} {ends lower : List ℕ} → Filed n E ends lower → y < n → at ≡ begin ends y → end ≡ getD ends y 0 → take (end - at) (drop at lower) ≡ lowerEnds E y
-unfolding bucketOf
-filed-part {y = y} f h a e = rw (a, e) (f .bucket y h)
-
 -- with the bucket gathered, y is raised too
 raise-step : {n y : ℕ} {E : List Edge} {p jump p′ jump′ : List ℕ} → Raised n E y p jump → Gathered n E y (length (lowerEnds E y)) (lowerEnds E y) p p′ jump′ → Raised n E (y + 1) p′ jump′
 raise-step {n} {y} {E} {p} {p′ = p′} r g = record { standing = standing-up (g .standing); covered = covered }
@@ -118,7 +109,7 @@ raise-step {n} {y} {E} {p} {p′ = p′} r g = record { standing = standing-up (
         (λ (d : b ≢ y). kept-conn (r .standing .long ∙ sym (g .standing .long)) (g .kept) (r .covered a b l low (omega arith)))
 
 -- the same by what gathering promises of the bucket that is filed
-pub raise-gather : {n y : ℕ} {E : List Edge} {bucket weights p jump bucket′ weights′ p′ jump′ : List ℕ} → length p ≡ n → bucket ≡ lowerEnds E y → Gathers y bucket weights p jump bucket′ weights′ p′ jump′ → Proper n E → Raised n E y p jump → Raised n E (y + 1) p′ jump′
+pub raise-gather : {n y : ℕ} {E : List Edge} {keep : Bool} {bucket weights p jump bucket′ weights′ p′ jump′ : List ℕ} → length p ≡ n → bucket ≡ lowerEnds E y → Gathers y keep bucket weights p jump bucket′ weights′ p′ jump′ → Proper n E → Raised n E y p jump → Raised n E (y + 1) p′ jump′
 raise-gather {n} {y} {E} {bucket} {p = p} {jump = jump} {p′ = p′} {jump′ = jump′} e b g proper r =
     raise-step r (subst (λ (us : List ℕ). Gathered n E y (length us) us p p′ jump′) b (gathered e r))
   where

@@ -17,21 +17,12 @@ use Rattle.game.proofs.Links.{links-none}
 use Rattle.refusal.specs.Limits.{maxVertices}
 use Rattle.bucket.specs.Ends.{tallied}
 use Rattle.bucket.specs.Filed.{Filed}
-use Rattle.bucket.proofs.Below.{below-mono}
-use Rattle.bucket.proofs.Reading.{filed-begin, filed-end}
-use Rattle.growth.specs.Growth.{Buckets, Light, Grows, Roomy, Regrows}
+use Rattle.bucket.proofs.Reading.{filed-consecutive}
+use Rattle.growth.specs.Growth.{Light, Grown, Regrowable, Regrows}
 
--- what is filed stands in buckets, one behind the other
-pub filed-buckets : {n : ℕ} {E : List Edge} {ends lower : List ℕ} → Filed n E ends lower → n ≤ maxVertices → Buckets ends lower
-filed-buckets {n} {E} f few = record {
-  few = omega (arith, f .long);
-  rising = λ y h. omega (arith, filed-begin f y (omega (arith, f .long)), f .end-at y (omega (arith, f .long)), below-mono y (y + 1) E (omega arith));
-  room = λ y h. omega (arith, filed-end f y (omega (arith, f .long)), f .fits);
-}
-
--- and has room to be grown
-pub filed-roomy : {n : ℕ} {E : List Edge} {ends lower p jump : List ℕ} → Filed n E ends lower → n ≤ maxVertices → length p ≡ n → length jump ≡ n → Roomy ends lower p jump
-filed-roomy f few e g = record { long = e ∙ sym (f .long); long-jump = g ∙ sym (f .long); buckets = filed-buckets f few }
+-- what is filed has room to be grown
+pub filed-regrowable : {n : ℕ} {E : List Edge} {ends lower p jump : List ℕ} → Filed n E ends lower → n ≤ maxVertices → length p ≡ n → length jump ≡ n → Regrowable ends lower p jump
+filed-regrowable f few e g = record { long = e ∙ sym (f .long); long-jump = g ∙ sym (f .long); buckets = filed-consecutive f few }
 
 -- what was filed is grown
 pub regrown : {n : ℕ} {E : List Edge} {ends lower jump p′ ends′ lower′ jump′ : List ℕ} → Proper n E → Filed n E ends lower → Regrows ends lower jump p′ ends′ lower′ jump′ → p′ ≡ forest n E
@@ -45,9 +36,9 @@ all-absent p h =
     (λ k l. h k l ∙ sym (getD-replicate (length p) k absent 0 l))
 
 -- what was filed is grown with its weights
-pub grown-filed : {n : ℕ} {E : List Edge} {ends lower weights jump p′ weights′ ends′ lower′ jump′ : List ℕ} → Filed n E ends lower → Grows ends lower weights jump p′ weights′ ends′ lower′ jump′ → (p′ ≡ forest n E) × (weights′ ≡ tallied false E weights)
+pub grown-filed : {n : ℕ} {E : List Edge} {ends lower weights p′ weights′ : List ℕ} → Filed n E ends lower → Grown ends lower weights p′ weights′ → (p′ ≡ forest n E) × (weights′ ≡ tallied false E weights)
 grown-filed {n} {E} {ends} {lower} {weights} {p′ = p′} {weights′ = weights′} f g =
-    subst (λ (m : ℕ). Proper m E → Filed m E ends lower → (p′ ≡ forest m E) × (weights′ ≡ tallied false E weights)) (f .long) (λ k h. (g .grown E k h, g .weighed E h)) (f .proper) f
+    subst (λ (m : ℕ). Proper m E → Filed m E ends lower → (p′ ≡ forest m E) × (weights′ ≡ tallied false E weights)) (f .long) (λ k h. (g .parents E k h, g .weighed E h)) (f .proper) f
 
 -- without old links the edges are all there is
 pub first-links : (E : List Edge) {n : ℕ} {p : List ℕ} → p ≡ replicate (length p) absent → n ≡ length p → forest n E ≡ forest (length p) (links p ++ E)

@@ -5,22 +5,20 @@
 -- Assumes nothing.
 use mathlib.Core.Path.{_≡_}
 use mathlib.Core.Logic.{_⊎_}
-use mathlib.Core.Bool.{false}
-use mathlib.Core.List.{List}
+use mathlib.Core.Bool.{Bool, true, false}
+use mathlib.Core.List.{List, _++_}
 use Prim.Native.Nat.{ℕ, _+_, _^_, _≤_, _<_}
 use lib.Dec.{eqb}
-use lib.ListN.{length, getD, take, replicate}
+use lib.ListN.{length, getD, take, drop, replicate}
 use Rattle.game.specs.Table.{count}
 use Rattle.game.specs.Edge.{Edge}
 use Rattle.game.specs.Game.{absent, forest}
 use Rattle.game.specs.Tree.{links}
 use Rattle.game.proofs.Conn.{Conn}
 use Rattle.game.specs.Graph.{Linked, Proper}
-use Rattle.refusal.specs.Limits.{maxVertices}
 use Rattle.growth.specs.Work.{workOf, cleared}
-use Rattle.table.proofs.Filling.{Filling}
 use Rattle.bucket.specs.Ends.{tallied}
-use Rattle.bucket.specs.Filed.{begin, Filed}
+use Rattle.bucket.specs.Filed.{begin, Consecutive, Filed}
 
 -- neither table has an entry for z
 pub record Root (p jump : List ℕ) (z : ℕ) : Type 0 where
@@ -96,10 +94,21 @@ pub record Gathered (n : ℕ) (E : List Edge) (y k : ℕ) (bucket was p jump : L
   pub joined : (i : ℕ) → i < k → Conn (links p) y (getD bucket i 0) y
   pub kept : Kept was p
 
+-- what is left of entries that were read: themselves, where they are kept, or zeros
+unfoldable pub leftOf : Bool → List ℕ → List ℕ
+leftOf true us = us
+leftOf false us = replicate (length us) 0
+
+-- a table of which the first i entries were read
+pub record ReadUpTo (keep : Bool) (was : List ℕ) (i : ℕ) (table : List ℕ) : Type 0 where
+  pub long : length table ≡ length was
+  pub inside : i ≤ length was
+  pub same : table ≡ leftOf keep (take i was) ++ drop i was
+
 -- what gathering a bucket for y promises
-pub record Gathers (y : ℕ) (bucket weights p jump bucket′ weights′ p′ jump′ : List ℕ) : Type 0 where
+pub record Gathers (y : ℕ) (keep : Bool) (bucket weights p jump bucket′ weights′ p′ jump′ : List ℕ) : Type 0 where
   pub upward : Upward (length p) jump′
-  pub clear : bucket′ ≡ replicate (length bucket) 0
+  pub leaves : bucket′ ≡ leftOf keep bucket
   pub weighed : Weighs bucket weights weights′
   pub gathered : (E : List Edge) → Standing (length p) E y 0 p jump → Offers E y bucket → Gathered (length p) E y (length bucket) bucket p p′ jump′
 
@@ -107,12 +116,6 @@ pub record Gathers (y : ℕ) (bucket weights p jump bucket′ weights′ p′ ju
 pub record Raised (n : ℕ) (E : List Edge) (y : ℕ) (p jump : List ℕ) : Type 0 where
   pub standing : Standing n E y 0 p jump
   pub covered : (a b : ℕ) → Linked E a b → a < b → b < y → Conn (links p) b a b
-
--- few vertices, and buckets one behind the other, none of which ends past the table of lower ends
-pub record Buckets (ends lower : List ℕ) : Type 0 where
-  pub few : length ends ≤ maxVertices
-  pub rising : (y : ℕ) → y < length ends → begin ends y ≤ getD ends y 0
-  pub room : (y : ℕ) → y < length ends → getD ends y 0 ≤ length lower
 
 -- no weight grows too large, whatever the buckets hold
 pub record Light (weights lower : List ℕ) : Type 0 where
@@ -122,35 +125,44 @@ pub record Light (weights lower : List ℕ) : Type 0 where
 pub record Blank (ends lower weights p jump : List ℕ) : Type 0 where
   pub blank : p ≡ replicate (length ends) absent
   pub blank-jump : jump ≡ replicate (length ends) absent
-  pub buckets : Buckets ends lower
+  pub buckets : Consecutive ends lower
   pub light : Light weights lower
 
 -- what raising promises: the parents are the elimination forest of whatever graph is filed, the weights are those of the buckets, which
--- are cleared
-pub record Raises (ends lower weights lower′ weights′ p : List ℕ) (end : ℕ) : Type 0 where
+-- are kept or cleared
+pub record Raises (keep : Bool) (ends lower weights lower′ weights′ p : List ℕ) (end : ℕ) : Type 0 where
   pub raised : (E : List Edge) → Proper (length ends) E → Filed (length ends) E ends lower → p ≡ forest (length ends) E
   pub last : end ≡ begin ends (length ends)
   pub weighed : Weighs (take end lower) weights weights′
-  pub clear : Filling 0 lower end lower′
+  pub leaves : ReadUpTo keep lower end lower′
 
 -- a forest can be grown from what is filed in a table without parents
 pub record Bare (ends lower weights p jump : List ℕ) : Type 0 where
   pub blank : p ≡ replicate (length ends) absent
   pub long-jump : length jump ≡ length ends
-  pub buckets : Buckets ends lower
+  pub buckets : Consecutive ends lower
   pub light : Light weights lower
 
--- what growing promises: the parents and the weights of whatever graph was filed, and cleared work tables
-pub record Grows (ends lower weights jump p′ weights′ ends′ lower′ jump′ : List ℕ) : Type 0 where
-  pub grown : (E : List Edge) → Proper (length ends) E → Filed (length ends) E ends lower → p′ ≡ forest (length ends) E
+-- a net is grown: it has the parents of whatever graph was filed, and the weights that the graph adds
+pub record Grown (ends lower weights p′ weights′ : List ℕ) : Type 0 where
+  pub parents : (E : List Edge) → Proper (length ends) E → Filed (length ends) E ends lower → p′ ≡ forest (length ends) E
   pub weighed : (E : List Edge) → Filed (length ends) E ends lower → weights′ ≡ tallied false E weights
+
+-- what growing promises: a grown net, and cleared work tables
+pub record Grows (ends lower weights jump p′ weights′ ends′ lower′ jump′ : List ℕ) : Type 0 where
+  pub grown : Grown ends lower weights p′ weights′
   pub clear : workOf ends′ jump′ lower′ ≡ cleared (workOf ends jump lower)
 
+-- what growing promises where the buckets are kept
+pub record GrowsKept (ends lower weights p′ weights′ lower′ : List ℕ) : Type 0 where
+  pub grown : Grown ends lower weights p′ weights′
+  pub kept : lower′ ≡ lower
+
 -- a forest can be grown anew from what is filed, whatever the tables hold: their lengths fit
-pub record Roomy (ends lower p jump : List ℕ) : Type 0 where
+pub record Regrowable (ends lower p jump : List ℕ) : Type 0 where
   pub long : length p ≡ length ends
   pub long-jump : length jump ≡ length ends
-  pub buckets : Buckets ends lower
+  pub buckets : Consecutive ends lower
 
 -- what growing anew promises: the parents of whatever graph was filed, and cleared work tables
 pub record Regrows (ends lower jump p′ ends′ lower′ jump′ : List ℕ) : Type 0 where

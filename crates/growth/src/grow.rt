@@ -2,11 +2,12 @@
 use net::Net;
 use table::wide;
 ghost use mathlib.Core.Path.{_≡_};
+ghost use mathlib.Core.Bool.{cond};
 ghost use mathlib.Core.List.{[], _∷_};
 ghost use Prim.Native.Nat.{ℕ, _+_, _^_, _<_, _≤_};
 ghost use lib.ListN.{length, getD, take, replicate};
 ghost use Rattle.growth.specs.Work.{workOf, cleared};
-ghost use Rattle.growth.specs.Growth.{Upward, Climbs, Weighs, Light, Gathers, Blank, Raises, Bare, Grows, Roomy, Regrows};
+ghost use Rattle.growth.specs.Growth.{Upward, Climbs, Weighs, Light, Gathers, Blank, Raises, Bare, Grows, GrowsKept, Regrowable, Regrows};
 
 // Makes the root of u's tree a child of y, and every vertex on the way jump to y. A vertex jumps higher than it stands, so
 // the climb ends.
@@ -38,15 +39,29 @@ fn weigh(u: u32, weights: &mut [u32])
     }
 }
 
-// Climbs for y from each vertex of y's bucket, weighs it, and clears its place, while it is at hand.
-fn gather(y: u32, bucket: &mut [u32], weights: &mut [u32], parents: &mut [u32], jump: &mut [u32])
+// What is left at a place that held u.
+fn left(keep: bool, u: u32) -> u32
+    ensures { λ r. ⌜ r ≡ cond keep u 0 ⌝ }
+{
+    if keep { u } else { 0 }
+}
+
+// Climbs for y from each vertex of y's bucket and weighs it. Its place is kept, or cleared while it is at hand.
+fn gather(
+    y: u32,
+    keep: bool,
+    bucket: &mut [u32],
+    weights: &mut [u32],
+    parents: &mut [u32],
+    jump: &mut [u32],
+)
     requires { ⌜ (y < length (now parents)) × Upward (length (now parents)) (now jump) × Light (now weights) (now bucket) ⌝ }
-    ensures { λ _. ⌜ Gathers y (now (bucket .entry)) (now (weights .entry)) (now (parents .entry)) (now (jump .entry)) (now (bucket .exit)) (now (weights .exit)) (now (parents .exit)) (now (jump .exit)) ⌝ }
+    ensures { λ _. ⌜ Gathers y keep (now (bucket .entry)) (now (weights .entry)) (now (parents .entry)) (now (jump .entry)) (now (bucket .exit)) (now (weights .exit)) (now (parents .exit)) (now (jump .exit)) ⌝ }
 {
     let mut i = 0;
     while i < bucket.len() {
         let u = bucket[i];
-        bucket[i] = 0;
+        bucket[i] = left(keep, u);
         weigh(u, weights);
         climb(u, y, parents, jump);
         i += 1;
@@ -54,8 +69,9 @@ fn gather(y: u32, bucket: &mut [u32], weights: &mut [u32], parents: &mut [u32], 
 }
 
 // Raises the vertices upward, each with its bucket of lower ends, from blank tables to the forest of the graph that is filed. Answers
-// where the last bucket ends: so far the table of lower ends is cleared.
+// where the last bucket ends: so far the table of lower ends is kept or cleared.
 fn raise(
+    keep: bool,
     ends: &[u32],
     lower: &mut [u32],
     weights: &mut [u32],
@@ -63,13 +79,13 @@ fn raise(
     jump: &mut [u32],
 ) -> usize
     requires { ⌜ Blank (now ends) (now lower) (now weights) (now parents) (now jump) ⌝ }
-    ensures { λ r. ⌜ Raises (now (ends .entry)) (now (lower .entry)) (now (weights .entry)) (now (lower .exit)) (now (weights .exit)) (now (parents .exit)) r ⌝ }
+    ensures { λ r. ⌜ Raises keep (now (ends .entry)) (now (lower .entry)) (now (weights .entry)) (now (lower .exit)) (now (weights .exit)) (now (parents .exit)) r ⌝ }
 {
     let mut at = 0;
     let mut y = 0;
     while y < ends.len() {
         let end = wide(ends[y]);
-        gather(y as u32, &mut lower[at..end], weights, parents, jump);
+        gather(y as u32, keep, &mut lower[at..end], weights, parents, jump);
         at = end;
         y += 1;
     }
@@ -99,14 +115,29 @@ pub fn grow(
     ensures { λ _. ⌜ Grows (now (ends .entry)) (now (lower .entry)) (now (weights .entry)) (now (jump .entry)) (now (parents .exit)) (now (weights .exit)) (now (ends .exit)) (now (lower .exit)) (now (jump .exit)) ⌝ }
 {
     table::fill(jump, Net::ABSENT);
-    let end = raise(ends, lower, weights, parents, jump);
+    let end = raise(false, ends, lower, weights, parents, jump);
     clear(ends, jump, lower, end);
+}
+
+// Grows the forest in the same way, with what is filed kept for who reads it next. The jumps are left as they stand.
+pub fn grow_kept(
+    parents: &mut [u32],
+    weights: &mut [u32],
+    ends: &[u32],
+    jump: &mut [u32],
+    lower: &mut [u32],
+)
+    requires { ⌜ Bare (now ends) (now lower) (now weights) (now parents) (now jump) ⌝ }
+    ensures { λ _. ⌜ GrowsKept (now (ends .entry)) (now (lower .entry)) (now (weights .entry)) (now (parents .exit)) (now (weights .exit)) (now (lower .exit)) ⌝ }
+{
+    table::fill(jump, Net::ABSENT);
+    raise(true, ends, lower, weights, parents, jump);
 }
 
 // Grows the forest of the graph that is filed, and clears the work tables. Some edges may be old links, so no weight is counted: the
 // table for it is empty.
 pub fn regrow(parents: &mut [u32], ends: &mut [u32], jump: &mut [u32], lower: &mut [u32])
-    requires { ⌜ Roomy (now ends) (now lower) (now parents) (now jump) ⌝ }
+    requires { ⌜ Regrowable (now ends) (now lower) (now parents) (now jump) ⌝ }
     ensures { λ _. ⌜ Regrows (now (ends .entry)) (now (lower .entry)) (now (jump .entry)) (now (parents .exit)) (now (ends .exit)) (now (lower .exit)) (now (jump .exit)) ⌝ }
 {
     let mut none = [0u32; 0];

@@ -5,5 +5,7 @@ mod putting;
 mod work;
 
 pub use extending::extend;
+pub use grow::clear;
+pub use grow::grow_kept;
 pub use grow::regrow;
 pub use work::bad_work;

@@ -8,7 +8,7 @@ use native.Mathlib.Decide.{ℕ-discrete}
 use native.Mathlib.Omega.{arith}
 use lib.ListN.{length, getD}
 use Rattle.reach.specs.Layout.{Own, Layout}
-use Rattle.reach.specs.Filed.{Marked}
+use Rattle.reach.specs.InSlots.{Marked}
 use Rattle.reach.proofs.Slots.{own-unique}
 
 -- the slots of u stop at `stop`; slot k is one of them and not the first, or the first of another lower end

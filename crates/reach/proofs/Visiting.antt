@@ -20,7 +20,7 @@ use Rattle.game.proofs.Climbs.{Climbs, top}
 use Rattle.reach.specs.Balance.{childSum, Balanced}
 use Rattle.reach.specs.Jumps.{Jumps, Under, Found}
 use Rattle.reach.specs.Layout.{Own}
-use Rattle.reach.specs.Filed.{upward}
+use Rattle.reach.specs.InSlots.{upward}
 use Rattle.reach.specs.Visit.{Slotted, Empty}
 use Rattle.reach.proofs.Subtree.{climbs-trans}
 use Rattle.reach.proofs.Children.{unit, unit-here, unit-elsewhere, unit-small, childSum-ext, childSum-add, childSum-none}

@@ -7,10 +7,10 @@ use Prim.Native.Nat.{ℕ, _≤_}
 use lib.Dec.{eqb}
 use lib.ListN.{length}
 use Rattle.game.specs.Table.{tabulate, count}
-use Rattle.game.specs.Edge.{Edge, lower, edges}
+use Rattle.game.specs.Edge.{Edge, lower}
 use Rattle.game.specs.Game.{forest}
+use Rattle.game.specs.Graph.{Proper}
 use Rattle.refusal.specs.Limits.{maxVertices, maxEdges}
-use Rattle.refusal.specs.Refusal.{firstFault}
 
 -- the number of edges whose lower end is x
 unfoldable pub lowerCount : List Edge → ℕ → ℕ
@@ -20,10 +20,10 @@ lowerCount es x = count (λ (e : Edge). eqb (lower e) x) es
 unfoldable pub lowerCounts : ℕ → List Edge → List ℕ
 lowerCounts n es = tabulate n (lowerCount es)
 
--- p is the forest of the flat list xs, which has no faulty edge, within document 01's limits, and c its edges counted by lower end
-pub record Given (p c xs : List ℕ) : Type 0 where
+-- p is the forest of a graph within document 01's limits, and c its edges counted by lower end
+pub record Given (p c : List ℕ) (es : List Edge) : Type 0 where
   pub vertices : length p ≤ maxVertices
-  pub few : length (edges xs) ≤ maxEdges
-  pub faultless : firstFault (length p) (edges xs) ≡ 0
-  pub parents : p ≡ forest (length p) (edges xs)
-  pub counts : c ≡ lowerCounts (length p) (edges xs)
+  pub few : length es ≤ maxEdges
+  pub proper : Proper (length p) es
+  pub parents : p ≡ forest (length p) es
+  pub counts : c ≡ lowerCounts (length p) es

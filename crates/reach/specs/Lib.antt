@@ -2,6 +2,6 @@
 pub mod Balance
 pub mod Jumps
 pub mod Layout
-pub mod Filed
+pub mod InSlots
 pub mod Visit
 pub mod Given

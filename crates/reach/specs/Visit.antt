@@ -11,12 +11,12 @@ use Rattle.game.proofs.Climbs.{Climbs}
 use Rattle.refusal.specs.Limits.{maxEdges}
 use Rattle.reach.specs.Jumps.{Jumps}
 use Rattle.reach.specs.Layout.{Layout}
-use Rattle.reach.specs.Filed.{upward, Filed, Marked}
+use Rattle.reach.specs.InSlots.{upward, InSlots, Marked}
 
 -- the edges of es stand in the slots, and each goes up the forest
 pub record Slotted (p w : List ℕ) (es : List Edge) (filed stops ends first slots : List ℕ) : Type 0 where
   pub layout : Layout p w stops ends (length slots)
-  pub content : Filed es w stops filed
+  pub content : InSlots es w stops filed
   pub marked : Marked w stops filed first slots
   pub climb : (x y : ℕ) → List·Memᴰ (x ─ y) (upward es) → (x < y) × (y < length p) × Climbs p y x
   pub few : length slots ≤ maxEdges

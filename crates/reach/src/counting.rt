@@ -5,11 +5,13 @@ use crate::overlap::count_overlaps;
 use crate::slotting::fill_slots;
 use net::Net;
 ghost use mathlib.Core.Path.{_≡_};
+ghost use mathlib.Core.List.{List};
 ghost use Prim.Native.Nat.{ℕ, _+_, _<_};
 ghost use lib.ListN.{length};
-ghost use Rattle.game.specs.Edge.{edges as edgesOf};
+ghost use Rattle.game.specs.Edge.{Edge};
 ghost use Rattle.game.specs.Net.{reach as reachOf};
 ghost use Rattle.game.specs.Table.{tabulate};
+ghost use Rattle.bucket.specs.Filed.{Filed};
 ghost use Rattle.reach.specs.Balance.{Balanced, Summable};
 ghost use Rattle.reach.specs.Given.{Given};
 
@@ -34,13 +36,14 @@ fn settle(parents: &[u32], overlaps: &[u32], reach: &mut [u32])
     }
 }
 
-// The reach of each vertex of a net, from the edges that it is the net of. Whatever the work tables held does not matter, and
-// they may hold anything afterwards: `ends`, `ancestor`, `previous` and `overlaps` have an entry for each vertex, `slots` one for
-// each edge.
+// The reach of each vertex of a net, from the edges that it is the net of, which are filed by their upper end. Whatever the work tables
+// held does not matter, and they may hold anything afterwards: `ends`, `ancestor`, `previous` and `overlaps` have an entry for each
+// vertex, `slots` one for each edge.
 pub fn reaches(
     parents: &[u32],
     counts: &[u32],
-    edges: &[u32],
+    bucket_ends: &[u32],
+    lower: &[u32],
     reach: &mut [u32],
     ends: &mut [u32],
     ancestor: &mut [u32],
@@ -48,15 +51,17 @@ pub fn reaches(
     overlaps: &mut [u32],
     slots: &mut [u32],
 )
-    requires { ⌜ Given (now parents) (now counts) (now edges) ⌝ }
+    requires { ⌜ ((es : List Edge) × Given (now parents) (now counts) es × Filed (length (now parents)) es (now «bucket_ends») (now lower)
+        × (length (now slots) ≡ length es)) ⌝ }
     requires { ⌜ (length (now reach) ≡ length (now parents)) × (length (now ends) ≡ length (now parents))
         × (length (now ancestor) ≡ length (now parents)) × (length (now previous) ≡ length (now parents))
-        × (length (now overlaps) ≡ length (now parents)) × (length (now slots) ≡ length (edgesOf (now edges))) ⌝ }
-    ensures { λ _. ⌜ now (reach .exit)
-        ≡ tabulate (length (now (parents .entry))) (reachOf (now (parents .entry)) (edgesOf (now (edges .entry)))) ⌝ }
+        × (length (now overlaps) ≡ length (now parents)) ⌝ }
+    ensures { λ _. ⌜ ((es : List Edge) → Given (now (parents .entry)) (now (counts .entry)) es
+        → Filed (length (now (parents .entry))) es (now («bucket_ends» .entry)) (now (lower .entry))
+        → now (reach .exit) ≡ tabulate (length (now (parents .entry))) (reachOf (now (parents .entry)) es)) ⌝ }
 {
     lay_out(parents, counts, slots.len() as u32, ends, ancestor);
-    fill_slots(counts, edges, ancestor, reach, slots);
+    fill_slots(counts, bucket_ends, lower, ancestor, reach, slots);
     count_overlaps(
         parents,
         counts,

@@ -5,19 +5,21 @@ use mathlib.Core.Bool.{Bool, true, false, not}
 use mathlib.Core.List.{List, [], _∷_}
 use Prim.Native.Nat.{ℕ, zero, suc, _+_}
 use native.Mathlib.Omega.{arith}
-use lib.ListN.{length, replicate, length-replicate}
+use lib.ListN.{length}
 use Rattle.game.specs.Edge.{edges}
 use Rattle.game.specs.Net.{Net, netOf, weights}
 use Rattle.refusal.specs.Refusal.{first}
 use Rattle.refusal.proofs.First.{first-pass, first-stop, first-last, unless-refused, unless-accepted, given-true}
-use Rattle.growth.specs.Work.{Work, workOf, cleared, zeros}
+use Rattle.refusal.proofs.Fault.{faultless-proper}
+use Rattle.growth.specs.Work.{Work, cleared}
 use Rattle.partition.proofs.Refused.{divide-known}
 use Rattle.reach.specs.Given.{lowerCount, lowerCounts, Given}
 use Rattle.game.proofs.Weights.{weight-count}
 use Rattle.game.proofs.Tables.{tabulate-ext}
 use Rattle.cost.specs.declared.Totals.{Totals}
 use Rattle.cost.specs.Figures.{totalsOf}
-use Rattle.compare.specs.Compare.{sameNet, Comparison, comparison, compared, unlike}
+use Rattle.compare.specs.Compare.{sameNet, unlike}
+use Rattle.compare.specs.Steps.{Compared}
 use Rattle.refusal.specs.Verdict.{Verdict, accepted, refused, judged}
 use Rattle.refusal.specs.Outcome.{ended}
 use Rattle.refusal.proofs.Ends.{judged-accepted, judged-refused}
@@ -60,16 +62,16 @@ module _ (of : Net) (B k : ℕ) (xs : List ℕ) (was : Lent) where
     passed = first-pass early (late ∷ []) z ∙ first-last late
 
     -- refused by the comparison: 23, the comparison tables hold the edges' net, and all but the work tables is as it was
-    pub ends-late : {same : Bool} {new : Net} {work : Work} → comparison same new work ≡ compared of (edges xs) (was .work) → same ≡ false
+    pub ends-late : {same : Bool} {new : Net} {work : Work} → Compared of (edges xs) (was .work) same new work → same ≡ false
         → ended (refused 23) (lent (was .written) new work) ≡ reportOutcome of B k xs was
-    unfolding reportOutcome reportRefusal early late unlike compared grown
+    unfolding reportOutcome reportRefusal early late unlike grown
     ends-late c differs =
         ap₂ ended (sym number)
-        ((λ i. lent (sym (unless-refused late (was .written) (figures of B k (edges xs)) some) i) (ap (λ (c : Comparison). c .net) c i) (ap (λ (c : Comparison). c .work) c i))
+        ((λ i. lent (sym (unless-refused late (was .written) (figures of B k (edges xs)) some) i) (c .net i) (c .clear differs i))
         ∙ sym (unless-accepted early was _ z))
       where
         is : late ≡ 23
-        is = given-true (not (sameNet of grown)) 23 (ap not (sym (ap (λ (c : Comparison). c .same) c) ∙ differs))
+        is = given-true (not (sameNet of grown)) 23 (ap not (sym (c .answer) ∙ differs))
 
         some : late ≡ 0 → ⊥
         some e = omega (arith, is)
@@ -79,10 +81,9 @@ module _ (of : Net) (B k : ℕ) (xs : List ℕ) (was : Lent) where
             ap (λ (m : ℕ). judged m (totalsOf of (edges xs) B k)) (passed ∙ is) ∙ judged-refused 23 _ (λ e. omega arith)
 
     -- where the comparison finds the net, it is the net of its edges
-    module _ {same : Bool} {new : Net} {work : Work} (c : comparison same new work ≡ compared of (edges xs) (was .work)) (found : same ≡ true) where
+    module _ {same : Bool} {new : Net} {work : Work} (c : Compared of (edges xs) (was .work) same new work) (found : same ≡ true) where
       own : of ≡ netOf (length (of .parents)) (edges xs)
-      unfolding compared
-      own = same-net of (netOf (length (of .parents)) (edges xs)) (sym (ap (λ (c : Comparison). c .same) c) ∙ found)
+      own = same-net of (netOf (length (of .parents)) (edges xs)) (sym (c .answer) ∙ found)
 
       weighed : of .weights ≡ weights (length (of .parents)) (edges xs)
       unfolding netOf
@@ -93,25 +94,27 @@ module _ (of : Net) (B k : ℕ) (xs : List ℕ) (was : Lent) where
       unfolding weights lowerCounts lowerCount
       counted = tabulate-ext (length (of .parents)) _ _ (λ x h. weight-count (edges xs) x)
 
-      own-list : Given (of .parents) (of .weights) xs
+      own-list : Given (of .parents) (of .weights) (edges xs)
       unfolding netOf
       own-list =
           let r = ready of B k xs was z in
           record {
             vertices = omega (arith, r .compares .growable .vertices, r .compares .parents);
             few = r .few;
-            faultless = r .faultless;
+            proper = faultless-proper (length (of .parents)) (edges xs) (r .faultless);
             parents = ap (λ (of : Net). of .parents) own;
             counts = weighed ∙ counted;
           }
 
-      reportable : Reportable (of .parents) (of .weights) B xs (was .written)
-      reportable =
+      -- what writing asks
+      pub write-ready : Reportable (of .parents) (of .weights) B (edges xs) (work .ends) (work .lower) (was .written)
+      write-ready =
           let r = ready of B k xs was z in
           let d = divide-known (of .parents) (of .weights) B k (was .written .division) (r .divides) in
           record {
             own = own-list;
             weighed = weighed;
+            filed = c .filed found;
             divisible = d .net;
             division = d .tables;
             edge-blocks = r .lengths .edge-blocks;
@@ -119,27 +122,14 @@ module _ (of : Net) (B k : ℕ) (xs : List ℕ) (was : Lent) where
             counts = r .lengths .counts;
           }
 
-      work-lengths : (length (work .ends) ≡ length (of .parents)) × (length (work .lower) ≡ length (of .parents) + length (edges xs))
-      unfolding compared cleared zeros
-      work-lengths =
-          let r = ready of B k xs was z in (
-            ap (λ (c : Comparison). length (c .work .ends)) c ∙ length-replicate {A = ℕ} (length (was .work .ends)) 0 ∙ r .lengths .ends,
-            ap (λ (c : Comparison). length (c .work .lower)) c ∙ length-replicate {A = ℕ} (length (was .work .lower)) 0 ∙ r .lengths .lower,
-          )
-
-      -- what writing asks
-      pub write-ready : Reportable (of .parents) (of .weights) B xs (was .written)
-          × ((length (work .ends) ≡ length (of .parents)) × (length (work .lower) ≡ length (of .parents) + length (edges xs)))
-      write-ready = (reportable, work-lengths)
-
-      -- accepted: the figures, all tables, and the work tables cleared again
-      pub ends-accepted : {loads : ℕ} {r : Verdict Totals} {new-written : Written} {ends lower : List ℕ} → loads ≡ length (was .written .division .blockLoads)
-          → Answered of B loads (edges xs) (work .ends) (work .lower) r new-written ends lower
-          → ended r (lent new-written new (workOf ends (work .jump) lower)) ≡ reportOutcome of B k xs was
-      unfolding reportOutcome reportRefusal early late compared cleared zeros
-      ends-accepted {loads} {r} {new-written} {ends} {lower} l a =
+      -- accepted: the figures, all tables, and the work tables cleared
+      pub ends-accepted : {loads : ℕ} {r : Verdict Totals} {new-written : Written} {work′ : Work} → loads ≡ length (was .written .division .blockLoads)
+          → Answered of B loads (edges xs) work r new-written work′ → cleared work ≡ cleared (was .work)
+          → ended r (lent new-written new work′) ≡ reportOutcome of B k xs was
+      unfolding reportOutcome reportRefusal early late
+      ends-accepted {loads} l a w =
           ap₂ ended (a .answers ∙ (λ i. accepted (totalsOf of (edges xs) B (blocks i))) ∙ sym number)
-          ((λ i. lent ((a .writes ∙ ap (λ (m : ℕ). figures of B m (edges xs)) blocks ∙ sym (unless-accepted late (was .written) (figures of B k (edges xs)) none)) i) (ap (λ (c : Comparison). c .net) c i) (workOf (clear-ends i) (ap (λ (c : Comparison). c .work .jump) c i) (clear-lower i)))
+          ((λ i. lent ((a .writes ∙ ap (λ (m : ℕ). figures of B m (edges xs)) blocks ∙ sym (unless-accepted late (was .written) (figures of B k (edges xs)) none)) i) (c .net i) ((a .clear ∙ w) i))
           ∙ sym (unless-accepted early was _ z))
         where
           blocks : loads ≡ k
@@ -150,9 +140,3 @@ module _ (of : Net) (B k : ℕ) (xs : List ℕ) (was : Lent) where
 
           number : judged (first (early ∷ late ∷ [])) (totalsOf of (edges xs) B k) ≡ accepted (totalsOf of (edges xs) B k)
           number = judged-accepted (first (early ∷ late ∷ [])) _ (passed ∙ none)
-
-          clear-ends : ends ≡ replicate (length (was .work .ends)) 0
-          clear-ends = a .clear-ends ∙ ap (λ (m : ℕ). replicate m 0) (ap (λ (c : Comparison). length (c .work .ends)) c ∙ length-replicate {A = ℕ} (length (was .work .ends)) 0)
-
-          clear-lower : lower ≡ replicate (length (was .work .lower)) 0
-          clear-lower = a .clear-lower ∙ ap (λ (m : ℕ). replicate m 0) (ap (λ (c : Comparison). length (c .work .lower)) c ∙ length-replicate {A = ℕ} (length (was .work .lower)) 0)

@@ -3,7 +3,7 @@
 use mathlib.Core.Path.{_≡_, refl, sym, ap, _∙_}
 use mathlib.Core.Bool.{Bool, true, false, not, _||_}
 use mathlib.Core.List.{List}
-use Prim.Native.Nat.{ℕ, _+_, _/_, _%_, _≤_}
+use Prim.Native.Nat.{ℕ, _+_, _/_, _%_, _≤_, _<_}
 use native.Mathlib.Omega.{arith}
 use lib.Dec.{eqb}
 use lib.ListN.{length}
@@ -13,7 +13,7 @@ use Rattle.game.proofs.Edges.{edges-length}
 use Rattle.game.proofs.Bools.{or-neither}
 use Rattle.refusal.specs.Limits.{maxEdges}
 use Rattle.refusal.specs.Refusal.{badCount, wrongLength, odd, firstFault}
-use Rattle.refusal.proofs.First.{first-none, given-none, good-count, length-right, list-even}
+use Rattle.refusal.proofs.First.{first-none, given-none, good-count, length-right}
 use Rattle.growth.specs.Work.{workOf, badWork}
 use Rattle.growth.proofs.Rooms.{good-work}
 use Rattle.partition.specs.Divide.{tables, wrongTables, divideRefusal}
@@ -52,7 +52,6 @@ pub record Lengths (of : Net) (k : ℕ) (xs : List ℕ) (was : Lent) : Type 0 wh
   pub ends : length (was .work .ends) ≡ length (of .parents)
   pub jump : length (was .work .jump) ≡ length (of .parents)
   pub lower : length (was .work .lower) ≡ length (of .parents) + length (edges xs)
-  pub even : length xs % 2 ≡ 0
 
 pub lengths-right : (of : Net) (k : ℕ) (xs : List ℕ) (was : Lent) → wrongLent of k xs was ≡ false → Lengths of k xs was
 unfolding wrongLent wrongFigures wrongCompared odd
@@ -76,11 +75,11 @@ lengths-right of k xs was e =
       ends = g .0;
       jump = g .1;
       lower = g .2;
-      even = list-even xs (a .1);
     }
 
 -- what is known where nothing was refused before the comparison
 pub record Ready (of : Net) (B k : ℕ) (xs : List ℕ) (was : Lent) : Type 0 where
+  pub some : 0 < length (of .parents)
   pub lengths : Lengths of k xs was
   pub divides : divideRefusal of B k (was .written .division) ≡ 0
   pub compares : Comparable of xs (was .compared) (was .work)
@@ -101,6 +100,7 @@ ready of B k xs was z =
     let n = good-count (length (of .parents)) count in
     let l : Lengths of k xs was = lengths-right of k xs was (given-none _ 1 (b .0)) in
     record {
+      some = n .0;
       lengths = l;
       divides = refused-not of B k (was .written .division) count (l .division) (given-none _ 7 (c .0)) (given-none _ 29 (d .0)) (given-none _ 21 (h .0));
       faultless = list .0;
@@ -109,9 +109,7 @@ ready of B k xs was z =
         parents = sym (l .compared-parents);
         weights = l .sized .weights ∙ sym (l .compared-parents);
         growable = record {
-          some = omega (arith, n .0, l .compared-parents);
           vertices = omega (arith, n .1, l .compared-parents);
-          even = l .even;
           few = list .1;
           faultless = ap (λ (m : ℕ). firstFault m (edges xs)) (l .compared-parents) ∙ list .0;
           weights = l .compared-weights ∙ sym (l .compared-parents);

@@ -49,7 +49,7 @@ module _ (of : Net) (B k : ℕ) (xs : List ℕ) (was : Lent) {totals : Totals} (
       let d = divide-known (of .parents) (of .weights) B k (was .written .division) (r .divides) in
       let proper = faultless-proper (length (of .parents)) (edges xs) (r .faultless) in
       let some : 0 < k = omega (arith, d .tables .some, d .blocks) in
-      let any : 0 < length (of .parents) = omega (arith, r .compares .growable .some, r .compares .parents) in
+      let any : 0 < length (of .parents) = r .some in
       subst (Together of (edges xs) k) (sym written)
       (record {
         net = λ js order tables p w lots fit. blocks-laid-together of (d .net .few) proper own B k some any (d .net .small) order tables p w lots fit;

@@ -11,12 +11,14 @@ use native.Mathlib.Decide.{le-ind}
 use native.Mathlib.Omega.{arith}
 use lib.ListN.{length, getD}
 use Rattle.game.specs.Table.{tabulate, sum, member}
-use Rattle.game.specs.Edge.{Edge, edges}
+use Rattle.game.specs.Edge.{Edge}
 use Rattle.game.specs.Net.{Net, net, reach, weights}
 use Rattle.game.specs.Graph.{Proper}
 use Rattle.game.proofs.Tables.{member-in, tabulate-length, tabulate-ext}
 use Rattle.refusal.specs.Refusal.{firstFault}
-use Rattle.refusal.proofs.Fault.{faultless-proper}
+use Rattle.refusal.proofs.Fault.{proper-faultless}
+use Rattle.bucket.specs.Filed.{Filed}
+use Rattle.growth.specs.Work.{Work, workOf, cleared}
 use Rattle.partition.specs.Divide.{Tables, tables, divided}
 use Rattle.packing.specs.Pack.{maxBlocks}
 use Rattle.groups.specs.Cut.{top}
@@ -26,7 +28,7 @@ use Rattle.reach.proofs.Counts.{bool-false}
 use Rattle.cost.specs.Figures.{different, edgeBlocks, blocksAt, blockCount, bound, boundOf, volumeOf, totals, totalsOf}
 use Rattle.refusal.specs.Verdict.{accepted}
 use Rattle.report.specs.Report.{written, figures}
-use Rattle.cost.specs.Steps.{boundBy, volumeBy, Countable, CountedBlocks}
+use Rattle.cost.specs.Steps.{boundBy, volumeBy, Countable}
 use Rattle.report.specs.Steps.{Reportable, Spread, Answered}
 use Rattle.cost.proofs.Sums.{table-total, sum-next}
 use Rattle.cost.proofs.Blocks.{block-at}
@@ -79,8 +81,8 @@ module _ (of : Net) (B k : ℕ) (some : 0 < k) (few : k ≤ maxBlocks) {es : Lis
   counts-any = tabulate-ext n (blockCount maxBlocks block es) (blockCount k block es) (λ y h. different-more k maxBlocks (blocksAt block es y) (at-below y h) few)
 
 -- once the net is divided and its reaches are written
-module _ {p w xs c t b l eb re bc : List ℕ} {B : ℕ} (q : Reportable p w B xs (written (tables c t b l) eb re bc)) {c′ t′ b′ l′ re′ : List ℕ}
-    (s : Spread p w B (length l) xs (tables c′ t′ b′ l′) re′) where
+module _ {p w c t b l eb re bc en lo : List ℕ} {es : List Edge} {B : ℕ} (q : Reportable p w B es en lo (written (tables c t b l) eb re bc)) {c′ t′ b′ l′ re′ : List ℕ}
+    (s : Spread p w B (length l) es (tables c′ t′ b′ l′) re′) where
   of : Net
   of = net p w
 
@@ -104,48 +106,40 @@ module _ {p w xs c t b l eb re bc : List ℕ} {B : ℕ} (q : Reportable p w B xs
   top-long = ap length (top-is ∙ divided-top of B k) ∙ tabulate-length (length p) (top p (cuts of B k))
 
   pub reach-long : length re′ ≡ length p
-  reach-long = ap length (s .reached) ∙ tabulate-length (length p) (reach p (edges xs))
+  reach-long = ap length (s .reached) ∙ tabulate-length (length p) (reach p es)
 
-  pub block-faultless : firstFault (length b′) (edges xs) ≡ 0
-  block-faultless = ap (λ (n : ℕ). firstFault n (edges xs)) block-long ∙ q .own .faultless
+  pub block-faultless : firstFault (length b′) es ≡ 0
+  block-faultless = ap (λ (n : ℕ). firstFault n es) block-long ∙ proper-faultless (length p) es (q .own .proper)
 
   below-most : (x : ℕ) → x < length b′ → getD b′ x 0 < maxBlocks
   unfolding of k
   below-most x h =
       omega (arith, ap (λ (t : List ℕ). getD t x 0) block-is, block-below of B k (q .division .some) x (omega (arith, block-long)), q .division .few)
 
-  module _ {e lo : List ℕ} where
-    pub block-countable : {bc′ : List ℕ} → length bc′ ≡ length bc → length e ≡ length p → length lo ≡ length p + length (edges xs) → Countable xs w b′ bc′ e lo
-    block-countable f g h = record {
-      few = omega (arith, block-long, q .own .vertices);
-      faultless = block-faultless;
-      weighed = q .weighed ∙ ap (λ (n : ℕ). weights n (edges xs)) (sym block-long);
-      blocks = below-most;
-      table = f ∙ q .counts ∙ sym block-long;
-      ends-fit = g ∙ sym block-long;
-      lower-fits = h ∙ ap (λ (n : ℕ). n + length (edges xs)) (sym block-long);
-      small = q .own .few;
-    }
+  pub block-countable : {bc′ : List ℕ} → length bc′ ≡ length bc → Countable es w b′ en lo bc′
+  block-countable f = record {
+    few = omega (arith, block-long, q .own .vertices);
+    filed = subst (λ (n : ℕ). Filed n es en lo) (sym block-long) (q .filed);
+    weighed = q .weighed ∙ ap (λ (n : ℕ). weights n es) (sym block-long);
+    blocks = below-most;
+    table = f ∙ q .counts ∙ sym block-long;
+  }
 
-    -- all that was written, and the answer
-    pub all-answered : {eb″ bc″ e″ lo″ : List ℕ} {bo vo : ℕ} → eb″ ≡ edgeBlocks b′ (edges xs) → CountedBlocks xs b′ e lo bc″ e″ lo″
-        → bo ≡ boundBy p t′ re′ → vo ≡ volumeBy bc″
-        → Answered (net p w) B (length l) (edges xs) e lo (accepted (totals bo vo)) (written (tables c′ t′ b′ l′) eb″ re′ bc″) e″ lo″
-    unfolding figures totalsOf boundOf volumeOf of k
-    all-answered {eb″} {bc″} f g u v = record {
-      answers = ap₂ (λ (b v : ℕ). accepted (totals b v))
-          (u ∙ bound-by p (edges xs) t′ (s .reached) ∙ ap (bound p (edges xs)) top-is)
-          (v ∙ volume-by (length p) (length l) (divided of B k .block) (edges xs) counted);
-      writes = λ i. written (s .divided-so i) ((f ∙ ap (λ (t : List ℕ). edgeBlocks t (edges xs)) block-is) i) (s .reached i) (counted i);
-      clear-ends = g .clear-ends;
-      clear-lower = g .clear-lower;
-    }
-      where
-        proper : Proper (length p) (edges xs)
-        proper = faultless-proper (length p) (edges xs) (q .own .faultless)
-
-        counted : bc″ ≡ tabulate (length p) (blockCount (length l) (divided of B k .block) (edges xs))
-        counted =
-            g .counts
-            ∙ (λ i. tabulate (block-long i) (blockCount maxBlocks (block-is i) (edges xs)))
-            ∙ counts-any of B k (q .division .some) (q .division .few) proper
+  -- all that was written, and the answer
+  pub all-answered : {eb″ bc″ jump : List ℕ} {bo vo : ℕ} {work : Work} → eb″ ≡ edgeBlocks b′ es → bc″ ≡ tabulate (length b′) (blockCount maxBlocks b′ es)
+      → work ≡ cleared (workOf en jump lo) → bo ≡ boundBy p t′ re′ → vo ≡ volumeBy bc″
+      → Answered (net p w) B (length l) es (workOf en jump lo) (accepted (totals bo vo)) (written (tables c′ t′ b′ l′) eb″ re′ bc″) work
+  unfolding figures totalsOf boundOf volumeOf of k
+  all-answered {eb″} {bc″} f g z u v = record {
+    answers = ap₂ (λ (b v : ℕ). accepted (totals b v))
+        (u ∙ bound-by p es t′ (s .reached) ∙ ap (bound p es) top-is)
+        (v ∙ volume-by (length p) (length l) (divided of B k .block) es counted);
+    writes = λ i. written (s .divided-so i) ((f ∙ ap (λ (t : List ℕ). edgeBlocks t es) block-is) i) (s .reached i) (counted i);
+    clear = z;
+  }
+    where
+      counted : bc″ ≡ tabulate (length p) (blockCount (length l) (divided of B k .block) es)
+      counted =
+          g
+          ∙ (λ i. tabulate (block-long i) (blockCount maxBlocks (block-is i) es))
+          ∙ counts-any of B k (q .division .some) (q .division .few) (q .own .proper)

@@ -3,10 +3,12 @@
 use mathlib.Core.Path.{_≡_}
 use mathlib.Core.List.{List}
 use Prim.Native.Nat.{ℕ}
-use lib.ListN.{length, replicate}
+use lib.ListN.{length}
 use Rattle.game.specs.Table.{tabulate}
-use Rattle.game.specs.Edge.{Edge, edges}
+use Rattle.game.specs.Edge.{Edge}
 use Rattle.game.specs.Net.{Net, net, weights, reach}
+use Rattle.bucket.specs.Filed.{Filed}
+use Rattle.growth.specs.Work.{Work, cleared}
 use Rattle.partition.specs.Divide.{Tables, divided}
 use Rattle.partition.specs.Steps.{Fitting}
 use Rattle.groups.specs.Steps.{Divisible}
@@ -16,24 +18,24 @@ use Rattle.cost.specs.declared.Totals.{Totals}
 use Rattle.cost.specs.Figures.{totalsOf}
 use Rattle.report.specs.Report.{Written, figures}
 
--- What writing is given: a net that is the net of its edges, that Divide accepts, and tables that fit.
-pub record Reportable (p w : List ℕ) (B : ℕ) (xs : List ℕ) (was : Written) : Type 0 where
-  pub own : Given p w xs
-  pub weighed : w ≡ weights (length p) (edges xs)
+-- What writing is given: a net that is the net of its edges, which are filed, that Divide accepts, and tables that fit.
+pub record Reportable (p w : List ℕ) (B : ℕ) (es : List Edge) (ends lower : List ℕ) (was : Written) : Type 0 where
+  pub own : Given p w es
+  pub weighed : w ≡ weights (length p) es
+  pub filed : Filed (length p) es ends lower
   pub divisible : Divisible p w B
   pub division : Fitting (length p) (was .division)
-  pub edge-blocks : length (was .edgeBlocks) ≡ length (edges xs)
+  pub edge-blocks : length (was .edgeBlocks) ≡ length es
   pub reaches : length (was .reach) ≡ length p
   pub counts : length (was .blockCount) ≡ length p
 
 -- what the first step leaves
-pub record Spread (p w : List ℕ) (B k : ℕ) (xs : List ℕ) (division : Tables) (reaches : List ℕ) : Type 0 where
+pub record Spread (p w : List ℕ) (B k : ℕ) (es : List Edge) (division : Tables) (reaches : List ℕ) : Type 0 where
   pub divided-so : division ≡ divided (net p w) B k
-  pub reached : reaches ≡ tabulate (length p) (reach p (edges xs))
+  pub reached : reaches ≡ tabulate (length p) (reach p es)
 
 -- what writing leaves and answers
-pub record Answered (of : Net) (B k : ℕ) (es : List Edge) (ends lower : List ℕ) (r : Verdict Totals) (written : Written) (ends′ lower′ : List ℕ) : Type 0 where
+pub record Answered (of : Net) (B k : ℕ) (es : List Edge) (work : Work) (r : Verdict Totals) (written : Written) (work′ : Work) : Type 0 where
   pub answers : r ≡ accepted (totalsOf of es B k)
   pub writes : written ≡ figures of B k es
-  pub clear-ends : ends′ ≡ replicate (length ends) 0
-  pub clear-lower : lower′ ≡ replicate (length lower) 0
+  pub clear : work′ ≡ cleared work

@@ -1,5 +1,6 @@
 // The call Report. It decides by reading alone, up to 22; then it grows the net of the edges into the comparison tables and compares;
-// only then it writes anything else.
+// only then it writes anything else. The list is filed once, for growing; the reaches and the block counts are read from the same
+// buckets.
 use crate::ReportAnswer;
 use cost::Totals;
 use net::Net;
@@ -7,9 +8,9 @@ use partition::cut_and_pack;
 use reach::reaches;
 ghost use mathlib.Core.Path.{_≡_};
 ghost use mathlib.Core.Bool.{false, _||_};
-ghost use Prim.Native.Nat.{_+_};
+ghost use mathlib.Core.List.{List};
 ghost use lib.ListN.{length};
-ghost use Rattle.game.specs.Edge.{edges as edgesOf};
+ghost use Rattle.game.specs.Edge.{Edge, edges as edgesOf};
 ghost use Rattle.game.specs.Net.{net};
 ghost use Rattle.refusal.specs.Refusal.{wrongLength};
 ghost use Rattle.refusal.specs.Outcome.{ended};
@@ -61,13 +62,14 @@ fn early_refusal(
     0
 }
 
-// Divides the net, and writes the reaches of its vertices. These come first: until the other tables are written, they are room for
-// the counting.
+// Divides the net, and writes the reaches of its vertices, from its edges as they are filed. The reaches come first: until the other
+// tables are written, they are room for the counting.
 fn divide_and_reach(
     parents: &[u32],
     weights: &[u32],
     limit: u32,
-    edges: &[u32],
+    ends: &[u32],
+    lower: &[u32],
     carried: &mut [u32],
     top: &mut [u32],
     block: &mut [u32],
@@ -76,13 +78,18 @@ fn divide_and_reach(
     reach: &mut [u32],
     block_count: &mut [u32],
 )
-    requires { ⌜ Reportable (now parents) (now weights) limit (now edges) (written (tables (now carried) (now top) (now block) (now «block_loads»)) (now «edge_blocks») (now reach) (now «block_count»)) ⌝ }
-    ensures { λ _. ⌜ Spread (now (parents .entry)) (now (weights .entry)) limit (length (now («block_loads» .entry))) (now (edges .entry)) (tables (now (carried .exit)) (now (top .exit)) (now (block .exit)) (now («block_loads» .exit))) (now (reach .exit)) ⌝ }
+    requires { ⌜ ((es : List Edge) × Reportable (now parents) (now weights) limit es (now ends) (now lower)
+        (written (tables (now carried) (now top) (now block) (now «block_loads»)) (now «edge_blocks») (now reach) (now «block_count»))) ⌝ }
+    ensures { λ _. ⌜ ((es : List Edge) → Reportable (now (parents .entry)) (now (weights .entry)) limit es (now (ends .entry)) (now (lower .entry))
+        (written (tables (now (carried .entry)) (now (top .entry)) (now (block .entry)) (now («block_loads» .entry))) (now («edge_blocks» .entry)) (now (reach .entry)) (now («block_count» .entry)))
+        → Spread (now (parents .entry)) (now (weights .entry)) limit (length (now («block_loads» .entry))) es
+        (tables (now (carried .exit)) (now (top .exit)) (now (block .exit)) (now («block_loads» .exit))) (now (reach .exit))) ⌝ }
 {
     reaches(
         parents,
         weights,
-        edges,
+        ends,
+        lower,
         reach,
         carried,
         top,
@@ -93,7 +100,8 @@ fn divide_and_reach(
     cut_and_pack(parents, weights, limit, carried, top, block, block_loads);
 }
 
-// Writes all that a report says of a net, and answers its bound and its volume. The work tables end as zeros.
+// Writes all that a report says of a net, and answers its bound and its volume. The edges are filed in the work tables, which end as
+// zeros.
 fn write_report(
     parents: &[u32],
     weights: &[u32],
@@ -107,17 +115,22 @@ fn write_report(
     reach: &mut [u32],
     block_count: &mut [u32],
     ends: &mut [u32],
+    jump: &mut [u32],
     lower: &mut [u32],
 ) -> ReportAnswer
-    requires { ⌜ Reportable (now parents) (now weights) limit (now edges) (written (tables (now carried) (now top) (now block) (now «block_loads»)) (now «edge_blocks») (now reach) (now «block_count»)) ⌝ }
-    requires { ⌜ (length (now ends) ≡ length (now parents)) × (length (now lower) ≡ length (now parents) + length (edgesOf (now edges))) ⌝ }
-    ensures { λ r. ⌜ Answered (net (now (parents .entry)) (now (weights .entry))) limit (length (now («block_loads» .entry))) (edgesOf (now (edges .entry))) (now (ends .entry)) (now (lower .entry)) (verdict r) (written (tables (now (carried .exit)) (now (top .exit)) (now (block .exit)) (now («block_loads» .exit))) (now («edge_blocks» .exit)) (now (reach .exit)) (now («block_count» .exit))) (now (ends .exit)) (now (lower .exit)) ⌝ }
+    requires { ⌜ Reportable (now parents) (now weights) limit (edgesOf (now edges)) (now ends) (now lower)
+        (written (tables (now carried) (now top) (now block) (now «block_loads»)) (now «edge_blocks») (now reach) (now «block_count»)) ⌝ }
+    ensures { λ r. ⌜ Answered (net (now (parents .entry)) (now (weights .entry))) limit (length (now («block_loads» .entry))) (edgesOf (now (edges .entry)))
+        (workOf (now (ends .entry)) (now (jump .entry)) (now (lower .entry))) (verdict r)
+        (written (tables (now (carried .exit)) (now (top .exit)) (now (block .exit)) (now («block_loads» .exit))) (now («edge_blocks» .exit)) (now (reach .exit)) (now («block_count» .exit)))
+        (workOf (now (ends .exit)) (now (jump .exit)) (now (lower .exit))) ⌝ }
 {
     divide_and_reach(
         parents,
         weights,
         limit,
-        edges,
+        ends,
+        lower,
         carried,
         top,
         block,
@@ -127,7 +140,8 @@ fn write_report(
         block_count,
     );
     cost::write_edge_blocks(edges, block, edge_blocks);
-    cost::write_block_counts(edges, weights, block, block_count, ends, lower);
+    cost::write_block_counts(weights, block, ends, lower, block_count);
+    growth::clear(ends, jump, lower, 0);
     let bound = cost::bound(parents, top, reach);
     let volume = cost::volume(block_count);
     ReportAnswer::Accepted(Totals { bound, volume })
@@ -217,6 +231,7 @@ pub fn report(
         reach,
         block_count,
         ends,
+        jump,
         lower,
     )
 }

@@ -20,8 +20,7 @@ use Rattle.starting.specs.Start.{startOutcome}
 use Rattle.adding.specs.Add.{addOutcome}
 use Rattle.relabel.specs.Relabel.{relabelled, inverseOf, Tables, tables, relabelRefusal, relabelOutcome}
 use Rattle.relabel.proofs.Relabelled.{relabelled-length, relabelled-faultless}
-use Rattle.compare.specs.Steps.{Growable}
-use Rattle.compare.proofs.Compared.{grown-tables}
+use Rattle.forest.proofs.FirstList.{FirstList, first-net}
 use Rattle.files.specs.Files.{vertexCapacity}
 use Rattle.run.specs.Steps.{Runnable, GrowRoom, Grown}
 
@@ -73,8 +72,8 @@ module _ {o xs ranks p w v e j l : List ℕ} (r : Runnable o xs) (room : GrowRoo
     as-many : length (edges ranks′) ≡ length (edges xs)
     as-many = ranked-count r by-rank
 
-    growable : Growable ranks′ (net p w) (workOf e j l)
-    growable =
+    first-list : FirstList ranks′ (net p w) (workOf e j l)
+    first-list =
         record {
           some = omega (arith, r .some, room .parents);
           vertices = omega (arith, r .vertices, room .parents);
@@ -94,5 +93,5 @@ module _ {o xs ranks p w v e j l : List ℕ} (r : Runnable o xs) (room : GrowRoo
     all-grown s a =
         record {
           ranked = by-rank;
-          net = ap (λ (g : Growing). g .net) (grown-tables growable s a) ∙ ap₂ (λ (n : ℕ) (ys : List ℕ). netOf n (edges ys)) (room .parents) by-rank;
+          net = ap (λ (g : Growing). g .net) (first-net first-list s a) ∙ ap₂ (λ (n : ℕ) (ys : List ℕ). netOf n (edges ys)) (room .parents) by-rank;
         }

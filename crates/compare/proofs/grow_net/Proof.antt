@@ -1,13 +1,26 @@
+use mathlib.Core.Path.{ap, _∙_}
+use Prim.Native.Nat.{ℕ}
+use native.Mathlib.Omega.{arith}
 use borrow.Author.Needs.{needs}
-use Rattle.compare.proofs.Compared.{grown-tables}
+use Rattle.game.specs.Edge.{edges as edgesOf}
+use Rattle.refusal.specs.Refusal.{firstFault}
+use Rattle.compare.proofs.Compared.{net-bare, net-grown}
 use Rattle.compare.proofs.grow_net.Statement.{statement}
 use Rattle.compare.proofs.grow_net.Tie as tie
 
-start-requires : tie.Need-start-requires
-start-requires c κs = search needs
+fill-requires : tie.Need-fill-requires
+fill-requires c κs = search needs
 
-add-requires : tie.Need-add-requires
-add-requires c κs = search needs
+fill-requires-2 : tie.Need-fill-requires-2
+fill-requires-2 c κs = search needs
+
+file-list-requires : tie.Need-file-list-requires
+file-list-requires c κs =
+    let g = c .before .before .before .before .before .before .before .before .before .before .before .before .before .before .before .before .pre in
+    (ap (λ (n : ℕ). firstFault n (edgesOf (c .before .before .before .before .before .before .before .before .before .before .before .before .before .before .before .before .args .edges .now))) (g .ends) ∙ g .faultless, (omega (arith, g .lower), omega (arith, g .lower, g .vertices, g .few)))
+
+grow-kept-requires : tie.Need-grow-kept-requires
+grow-kept-requires c κs = net-bare (c .before .before .before .before .before .before .before .before .before .before .before .before .before .before .before .before .before .before .before .before .before .before .before .before .before .before .pre) (c .before .before .before .before .before .before .before .before .before .before .before .before .before .before .before .before .before .before .fill .ensures) (c .before .before .before .before .before .before .before .before .before .before .before .before .before .before .fill2 .ensures) (c .before .before .before .before .before .before .before .before .before .file-list .ensures) (c .before .before .before .before .before .before .before .before .before .file-list .kept .1 .1 .0)
 
 same-length : tie.Need-same-length
 same-length c = search needs
@@ -25,14 +38,18 @@ same-length-5 : tie.Need-same-length-5
 same-length-5 c = search needs
 
 returns : tie.Need-returns
-returns c = grown-tables (c .before .before .before .before .before .before .before .before .before .before .before .before .before .before .before .before .before .before .before .before .before .before .before .before .before .before .before .before .before .pre) (c .before .before .before .before .before .before .before .before .before .before .before .before .before .before .before .before .before .before .before .before .start .ensures) (c .before .before .before .before .before .before .before .before .before .before .add .ensures)
+returns c =
+    let g = c .before .before .before .before .before .before .before .before .grow-kept .ensures in
+    net-grown (c .before .before .before .before .before .before .before .before .before .before .before .before .before .before .before .before .before .before .before .before .before .before .before .before .before .before .before .before .before .before .before .before .before .before .before .pre) (c .before .before .before .before .before .before .before .before .before .before .before .before .before .before .before .before .before .before .before .before .before .before .before .before .before .before .before .fill .ensures) (c .before .before .before .before .before .before .before .before .before .before .before .before .before .before .before .before .before .before .before .before .before .before .before .fill2 .ensures) (c .before .before .before .before .before .before .before .before .before .before .before .before .before .before .before .before .before .before .file-list .ensures) (c .before .before .before .before .before .before .before .before .before .before .before .before .before .before .before .before .before .before .file-list .kept .1 .1 .0) (g .grown) (g .kept)
 
 pub grow-net-spec : {M : Type 1} → statement M
 grow-net-spec =
     tie.close
     (tie.spec
-    start-requires
-    add-requires
+    fill-requires
+    fill-requires-2
+    file-list-requires
+    grow-kept-requires
     same-length
     same-length-2
     same-length-3

@@ -16,23 +16,23 @@ abbrev μ-loop : tie.MeasureT-loop
 loop-holds : tie.Need-loop-holds Inv-loop μ-loop
 loop-holds c = search needs
 
-mul-lower-end : tie.Need-mul-lower-end Inv-loop μ-loop
-mul-lower-end c = search needs
+mul-end-of : tie.Need-mul-end-of Inv-loop μ-loop
+mul-end-of c = search needs
 
-shared-slice-read-lower-end : tie.Need-shared-slice-read-lower-end Inv-loop μ-loop
-shared-slice-read-lower-end c = omega (arith, fill-inside (c .before .before .loop .inv .1) (c .before .loop-test .taken))
+shared-slice-read-end-of : tie.Need-shared-slice-read-end-of Inv-loop μ-loop
+shared-slice-read-end-of c = omega (arith, fill-inside (c .before .before .loop .inv .1) (c .before .loop-test .taken))
 
-add-lower-end : tie.Need-add-lower-end Inv-loop μ-loop
-add-lower-end c = search needs
+add-end-of : tie.Need-add-end-of Inv-loop μ-loop
+add-end-of c = search needs
 
-mul-lower-end-2 : tie.Need-mul-lower-end-2 Inv-loop μ-loop
-mul-lower-end-2 c = search needs
+mul-end-of-2 : tie.Need-mul-end-of-2 Inv-loop μ-loop
+mul-end-of-2 c = search needs
 
-shared-slice-read-lower-end-2 : tie.Need-shared-slice-read-lower-end-2 Inv-loop μ-loop
-shared-slice-read-lower-end-2 c = omega (arith, fill-inside (c .before .before .before .loop .inv .1) (c .before .before .loop-test .taken))
+shared-slice-read-end-of-2 : tie.Need-shared-slice-read-end-of-2 Inv-loop μ-loop
+shared-slice-read-end-of-2 c = omega (arith, fill-inside (c .before .before .before .loop .inv .1) (c .before .before .loop-test .taken))
 
-lower-end-requires : tie.Need-lower-end-requires Inv-loop μ-loop
-lower-end-requires c κs = search needs
+end-of-requires : tie.Need-end-of-requires Inv-loop μ-loop
+end-of-requires c κs = search needs
 
 wide-requires : tie.Need-wide-requires Inv-loop μ-loop
 wide-requires c κs = search needs
@@ -41,7 +41,7 @@ mul-edge-blocks : tie.Need-mul-edge-blocks Inv-loop μ-loop
 mul-edge-blocks c = search needs
 
 shared-slice-read-edge-blocks : tie.Need-shared-slice-read-edge-blocks Inv-loop μ-loop
-shared-slice-read-edge-blocks c = omega (arith, c .before .wide .ensures, c .before .before .lower-end .ensures, fill-lower (c .before .before .before .before .before .before .loop .inv .1) (c .before .before .before .before .before .loop-test .taken))
+shared-slice-read-edge-blocks c = omega (arith, c .before .wide .ensures, c .before .before .end-of .ensures, fill-lower (c .before .before .before .before .before .before .loop .inv .1) (c .before .before .before .before .before .loop-test .taken))
 
 mul-edge-blocks-2 : tie.Need-mul-edge-blocks-2 Inv-loop μ-loop
 mul-edge-blocks-2 c = search needs
@@ -61,7 +61,7 @@ loop-less c = simp length-set (omega arith)
 loop-again : tie.Need-loop-again Inv-loop μ-loop
 loop-again c = (
   simp length-set (c .before .before .before .before .before .before .loop .inv .0),
-  fill-step (c .before .before .before .before .before .before .loop .inv .1) (c .before .before .before .before .before .loop-test .taken) (ap (λ (at : ℕ). getD (c .before .before .before .before .before .before .before .before .before .before .args .block .now) at 0) (c .before .wide .ensures ∙ c .before .before .lower-end .ensures)) refl,
+  fill-step (c .before .before .before .before .before .before .loop .inv .1) (c .before .before .before .before .before .loop-test .taken) (ap (λ (at : ℕ). getD (c .before .before .before .before .before .before .before .before .before .before .args .block .now) at 0) (c .before .wide .ensures ∙ c .before .before .end-of .ensures)) refl,
 )
 
 same-length : tie.Need-same-length Inv-loop μ-loop
@@ -77,12 +77,12 @@ write-edge-blocks-spec =
     Inv-loop
     μ-loop
     loop-holds
-    mul-lower-end
-    shared-slice-read-lower-end
-    add-lower-end
-    mul-lower-end-2
-    shared-slice-read-lower-end-2
-    lower-end-requires
+    mul-end-of
+    shared-slice-read-end-of
+    add-end-of
+    mul-end-of-2
+    shared-slice-read-end-of-2
+    end-of-requires
     wide-requires
     mul-edge-blocks
     shared-slice-read-edge-blocks

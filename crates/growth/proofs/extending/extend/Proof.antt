@@ -4,7 +4,8 @@ use lib.ListN.{replicate}
 use Rattle.game.specs.Edge.{edges as edgesOf}
 use Rattle.game.specs.Game.{absent}
 use Rattle.refusal.specs.Refusal.{firstFault}
-use Rattle.growth.proofs.Regrown.{filed-buckets, grown-filed, first-links, light-list}
+use Rattle.bucket.proofs.Reading.{filed-consecutive}
+use Rattle.growth.proofs.Regrown.{grown-filed, first-links, light-list}
 use Rattle.growth.proofs.Rooms.{same-room}
 use native.Mathlib.Omega.{arith}
 use borrow.Author.Needs.{needs}
@@ -29,7 +30,7 @@ grow-requires c κs =
     record {
       blank = c .before .before .before .before .before .before .before .before .before .before .before .before .before .is-blank .ensures (c .before .before .before .before .before .before .before .before .before .before .before .before .if2 .taken) ∙ ap (λ (n : ℕ). replicate n absent) (sym (f .long ∙ e .long));
       long-jump = e .long-jump ∙ sym (f .long ∙ e .long);
-      buckets = filed-buckets f (omega (arith, e .long, e .table .few));
+      buckets = filed-consecutive f (omega (arith, e .long, e .table .few));
       light = record { light = λ v h. omega (arith, c .before .before .before .before .before .before .before .before .before .before .before .before .before .before .before .before .before .before .before .before .before .before .before .pre .1 .light .light v h, c .before .before .before .before .before .before .before .before .before .file-list .kept .1 .1 .0) };
     }
 
@@ -51,7 +52,7 @@ same-length-5 c = search needs
 returns : tie.Need-returns
 returns c =
     let e = c .before .before .before .before .before .before .before .before .before .before .before .before .before .before .before .before .before .before .before .before .before .before .before .before .before .before .before .before .before .before .before .before .before .before .pre .0 in
-    let g = grown-filed (c .before .before .before .before .before .before .before .before .before .before .before .before .before .before .before .before .before .before .before .before .file-list .ensures) (c .before .before .before .before .before .before .before .before .before .before .grow .ensures) in (
+    let g = grown-filed (c .before .before .before .before .before .before .before .before .before .before .before .before .before .before .before .before .before .before .before .before .file-list .ensures) (c .before .before .before .before .before .before .before .before .before .before .grow .ensures .grown) in (
       record {
         grown = g .0 ∙ first-links _ (c .before .before .before .before .before .before .before .before .before .before .before .before .before .before .before .before .before .before .before .before .before .before .before .before .is-blank .ensures (c .before .before .before .before .before .before .before .before .before .before .before .before .before .before .before .before .before .before .before .before .before .before .before .if2 .taken)) (e .long);
         clear = c .before .before .before .before .before .before .before .before .before .before .grow .ensures .clear ∙ same-room _ _ _ _ _ _ (c .before .before .before .before .before .before .before .before .before .before .before .before .before .before .before .before .before .before .before .before .file-list .kept .1 .0) refl (c .before .before .before .before .before .before .before .before .before .before .before .before .before .before .before .before .before .before .before .before .file-list .kept .1 .1 .0);

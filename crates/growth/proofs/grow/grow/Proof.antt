@@ -3,7 +3,7 @@ use Prim.Native.Nat.{ℕ}
 use lib.ListN.{replicate}
 use Rattle.game.specs.Game.{absent}
 use Rattle.growth.proofs.Rooms.{same-room}
-use Rattle.growth.proofs.Weigh.{filling-front, weighs-graph}
+use Rattle.growth.proofs.Weigh.{read-cleared, weighs-graph}
 use native.Mathlib.Omega.{arith}
 use borrow.Author.Needs.{needs}
 use Rattle.growth.proofs.grow.grow.Statement.{statement}
@@ -22,8 +22,8 @@ raise-requires c κs = record {
 
 clear-requires : tie.Need-clear-requires
 clear-requires c κs =
-    let r = c .before .before .before .before .before .before .before .before .before .before .before .raise .ensures .clear in
-    (omega (arith, r .inside, r .long), filling-front r)
+    let r = c .before .before .before .before .before .before .before .before .before .before .before .raise .ensures .leaves in
+    (omega (arith, r .inside, r .long), read-cleared r)
 
 same-length : tie.Need-same-length
 same-length c = search needs
@@ -44,9 +44,8 @@ returns : tie.Need-returns
 returns c =
     let r = c .before .before .before .before .before .before .before .before .before .before .before .before .before .before .before .before .before .before .raise .ensures in
     record {
-      grown = r .raised;
-      weighed = λ E f. weighs-graph f (r .last) (r .weighed);
-      clear = c .before .before .before .before .before .before .clear .ensures ∙ same-room _ _ _ _ _ _ refl (c .before .before .before .before .before .before .before .before .before .before .before .before .before .before .before .before .before .before .raise .kept .1 .1 .1 .1 .0 ∙ c .before .before .before .before .before .before .before .before .before .before .before .before .before .before .before .before .before .before .before .before .before .before .before .before .before .before .fill .kept .0) (c .before .before .before .before .before .before .before .before .before .before .before .before .before .before .before .before .before .before .raise .kept .1 .0);
+      grown = record { parents = r .raised; weighed = λ E f. weighs-graph f (r .last) (r .weighed) };
+      clear = c .before .before .before .before .before .before .clear .ensures ∙ same-room _ _ _ _ _ _ refl (c .before .before .before .before .before .before .before .before .before .before .before .before .before .before .before .before .before .before .raise .kept .1 .1 .1 .1 .1 .0 ∙ c .before .before .before .before .before .before .before .before .before .before .before .before .before .before .before .before .before .before .before .before .before .before .before .before .before .before .fill .kept .0) (c .before .before .before .before .before .before .before .before .before .before .before .before .before .before .before .before .before .before .raise .kept .1 .1 .0);
     }
 
 pub grow-spec : {M : Type 1} → statement M

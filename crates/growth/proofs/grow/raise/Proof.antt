@@ -4,12 +4,13 @@ use lib.ListN.{take, length-replicate, length-take, length}
 use Rattle.game.specs.Edge.{Edge}
 use Rattle.game.specs.Game.{absent}
 use Rattle.game.specs.Graph.{Proper}
-use Rattle.table.proofs.Filling.{Filling, filling-start}
+use mathlib.Core.Bool.{Bool}
 use Rattle.bucket.specs.Filed.{begin, Filed}
-use Rattle.growth.specs.Growth.{Upward, Weighs, Raised}
+use Rattle.bucket.proofs.Reading.{begin-next, filed-part}
+use Rattle.growth.specs.Growth.{Upward, Weighs, Raised, ReadUpTo}
 use Rattle.growth.proofs.Climb.{upward-blank}
-use Rattle.growth.proofs.Raise.{raise-start, begin-next, filed-part, raise-gather, raise-end}
-use Rattle.growth.proofs.Weigh.{weighs-none, weighs-room, weighs-stretch, part-length, filling-part, filling-on}
+use Rattle.growth.proofs.Raise.{raise-start, raise-gather, raise-end}
+use Rattle.growth.proofs.Weigh.{weighs-none, weighs-room, weighs-stretch, part-length, read-start, read-part, read-on}
 use native.Mathlib.Omega.{arith}
 use Prim.Native.Nat.{ℕ, _-_, _<_, _≤_}
 use borrow.Author.Needs.{needs}
@@ -17,20 +18,20 @@ use Rattle.growth.proofs.grow.raise.Statement.{statement}
 use Rattle.growth.proofs.grow.raise.Tie as tie
 
 -- the vertices below y are raised, for whatever graph is filed
-record Turn (ends was weights₀ lower weights p jump : List ℕ) (at y : ℕ) : Type 0 where
+record Turn (keep : Bool) (ends was weights₀ lower weights p jump : List ℕ) (at y : ℕ) : Type 0 where
   same : length p ≡ length ends
   upward : Upward (length ends) jump
   within : y ≤ length ends
   start : at ≡ begin ends y
-  filling : Filling 0 was at lower
+  reading : ReadUpTo keep was at lower
   weighed : Weighs (take at was) weights₀ weights
   raised : (E : List Edge) → Proper (length ends) E → Filed (length ends) E ends was → Raised (length ends) E y p jump
 
 abbrev Inv-loop : tie.InvT-loop
-Inv-loop ends lower₀ weights₀ parents₀ jump₀ at₀ y₀ lower weights parents jump at y = Turn ends lower₀ weights₀ lower weights parents jump at y
+Inv-loop keep ends lower₀ weights₀ parents₀ jump₀ at₀ y₀ lower weights parents jump at y = Turn keep ends lower₀ weights₀ lower weights parents jump at y
 
 abbrev μ-loop : tie.MeasureT-loop
-μ-loop ends lower₀ weights₀ parents₀ jump₀ at₀ y₀ lower weights parents jump at y = length ends - y
+μ-loop keep ends lower₀ weights₀ parents₀ jump₀ at₀ y₀ lower weights parents jump at y = length ends - y
 
 loop-holds : tie.Need-loop-holds Inv-loop μ-loop
 unfolding begin
@@ -41,7 +42,7 @@ loop-holds c =
       upward = subst (Upward _) (sym (b .blank-jump)) (upward-blank _);
       within = omega arith;
       start = refl;
-      filling = filling-start 0 _;
+      reading = read-start _ _;
       weighed = weighs-none _;
       raised = λ E k f. subst₂ (Raised _ E 0) (sym (b .blank)) (sym (b .blank-jump)) (raise-start _ E (omega (arith, b .buckets .few)));
     }
@@ -67,7 +68,7 @@ sub-gather c =
     let here : c .before .before .before .loop .y < length (c .before .before .before .before .before .before .before .before .before .args .ends .now) = c .before .before .loop-test .taken in
     let b = c .before .before .before .before .before .before .before .before .before .pre .buckets in
     let order : c .before .before .before .loop .at ≤ c .wide .result = omega (arith, t .start, b .rising _ here, c .wide .ensures) in
-    let room : c .wide .result ≤ length (c .before .before .before .loop .lower) = omega (arith, t .filling .long, b .room _ here, c .wide .ensures) in
+    let room : c .wide .result ≤ length (c .before .before .before .loop .lower) = omega (arith, t .reading .long, b .room _ here, c .wide .ensures) in
     omega (arith, order)
 
 part-gather-start : tie.Need-part-gather-start Inv-loop μ-loop
@@ -76,7 +77,7 @@ part-gather-start c =
     let here : c .before .before .before .loop .y < length (c .before .before .before .before .before .before .before .before .before .args .ends .now) = c .before .before .loop-test .taken in
     let b = c .before .before .before .before .before .before .before .before .before .pre .buckets in
     let order : c .before .before .before .loop .at ≤ c .wide .result = omega (arith, t .start, b .rising _ here, c .wide .ensures) in
-    let room : c .wide .result ≤ length (c .before .before .before .loop .lower) = omega (arith, t .filling .long, b .room _ here, c .wide .ensures) in
+    let room : c .wide .result ≤ length (c .before .before .before .loop .lower) = omega (arith, t .reading .long, b .room _ here, c .wide .ensures) in
     omega (arith, order)
 
 part-gather-end : tie.Need-part-gather-end Inv-loop μ-loop
@@ -85,7 +86,7 @@ part-gather-end c =
     let here : c .before .before .before .loop .y < length (c .before .before .before .before .before .before .before .before .before .args .ends .now) = c .before .before .loop-test .taken in
     let b = c .before .before .before .before .before .before .before .before .before .pre .buckets in
     let order : c .before .before .before .loop .at ≤ c .wide .result = omega (arith, t .start, b .rising _ here, c .wide .ensures) in
-    let room : c .wide .result ≤ length (c .before .before .before .loop .lower) = omega (arith, t .filling .long, b .room _ here, c .wide .ensures) in
+    let room : c .wide .result ≤ length (c .before .before .before .loop .lower) = omega (arith, t .reading .long, b .room _ here, c .wide .ensures) in
     omega (arith, room)
 
 gather-requires : tie.Need-gather-requires Inv-loop μ-loop
@@ -94,12 +95,12 @@ gather-requires c κs =
     let here : c .before .before .before .before .before .before .before .loop .y < length (c .before .before .before .before .before .before .before .before .before .before .before .before .before .args .ends .now) = c .before .before .before .before .before .before .loop-test .taken in
     let b = c .before .before .before .before .before .before .before .before .before .before .before .before .before .pre .buckets in
     let order : c .before .before .before .before .before .before .before .loop .at ≤ c .before .before .before .before .wide .result = omega (arith, t .start, b .rising _ here, c .before .before .before .before .wide .ensures) in
-    let room : c .before .before .before .before .wide .result ≤ length (c .before .before .before .before .before .before .before .loop .lower) = omega (arith, t .filling .long, b .room _ here, c .before .before .before .before .wide .ensures) in (
+    let room : c .before .before .before .before .wide .result ≤ length (c .before .before .before .before .before .before .before .loop .lower) = omega (arith, t .reading .long, b .room _ here, c .before .before .before .before .wide .ensures) in (
       omega (arith, t .same, here),
       subst (λ (m : ℕ). Upward m (c .before .before .before .before .before .before .before .loop .jump)) (sym (t .same)) (t .upward),
       record {
         light = λ v h.
-            omega (arith, weighs-room (t .weighed) v (omega (arith, t .weighed .long)), length-take (c .before .before .before .before .before .before .before .loop .at) (c .before .before .before .before .before .before .before .before .before .before .before .before .before .args .lower .now), part-length (c .before .before .before .before .before .before .before .loop .at) (c .before .before .before .before .wide .result) (c .before .before .before .before .before .before .before .loop .lower) room, c .before .before .before .before .before .before .before .before .before .before .before .before .before .pre .light .light v (omega (arith, t .weighed .long)), t .filling .long);
+            omega (arith, weighs-room (t .weighed) v (omega (arith, t .weighed .long)), length-take (c .before .before .before .before .before .before .before .loop .at) (c .before .before .before .before .before .before .before .before .before .before .before .before .before .args .lower .now), part-length (c .before .before .before .before .before .before .before .loop .at) (c .before .before .before .before .wide .result) (c .before .before .before .before .before .before .before .loop .lower) room, c .before .before .before .before .before .before .before .before .before .before .before .before .before .pre .light .light v (omega (arith, t .weighed .long)), t .reading .long);
       },
     )
 
@@ -115,16 +116,16 @@ loop-again c =
     let here : c .before .before .before .before .before .before .before .before .before .before .before .before .before .before .before .before .loop .y < length (c .before .before .before .before .before .before .before .before .before .before .before .before .before .before .before .before .before .before .before .before .before .before .args .ends .now) = c .before .before .before .before .before .before .before .before .before .before .before .before .before .before .before .loop-test .taken in
     let b = c .before .before .before .before .before .before .before .before .before .before .before .before .before .before .before .before .before .before .before .before .before .before .pre .buckets in
     let order : c .before .before .before .before .before .before .before .before .before .before .before .before .before .before .before .before .loop .at ≤ c .before .before .before .before .before .before .before .before .before .before .before .before .before .wide .result = omega (arith, t .start, b .rising _ here, c .before .before .before .before .before .before .before .before .before .before .before .before .before .wide .ensures) in
-    let room : c .before .before .before .before .before .before .before .before .before .before .before .before .before .wide .result ≤ length (c .before .before .before .before .before .before .before .before .before .before .before .before .before .before .before .before .loop .lower) = omega (arith, t .filling .long, b .room _ here, c .before .before .before .before .before .before .before .before .before .before .before .before .before .wide .ensures) in
+    let room : c .before .before .before .before .before .before .before .before .before .before .before .before .before .wide .result ≤ length (c .before .before .before .before .before .before .before .before .before .before .before .before .before .before .before .before .loop .lower) = omega (arith, t .reading .long, b .room _ here, c .before .before .before .before .before .before .before .before .before .before .before .before .before .wide .ensures) in
     let g = c .before .before .before .before .before .before .before .before .gather .ensures in
     record {
-      same = c .before .before .before .before .before .before .before .before .gather .kept .1 .1 .1 .0 ∙ t .same;
-      upward = subst (λ (m : ℕ). Upward m (c .before .before .before .before .before .before .before .before .gather .last .1 .1 .1 .1 .0)) (t .same) (g .upward);
+      same = c .before .before .before .before .before .before .before .before .gather .kept .1 .1 .1 .1 .0 ∙ t .same;
+      upward = subst (λ (m : ℕ). Upward m (c .before .before .before .before .before .before .before .before .gather .last .1 .1 .1 .1 .1 .0)) (t .same) (g .upward);
       within = omega arith;
       start = c .before .before .before .before .before .before .before .before .before .before .before .before .before .wide .ensures ∙ sym (begin-next _ _);
-      filling = filling-on (t .filling) _ order room (g .clear);
-      weighed = weighs-stretch _ _ _ order (t .weighed) (rw (filling-part (t .filling) (c .before .before .before .before .before .before .before .before .before .before .before .before .before .wide .result - c .before .before .before .before .before .before .before .before .before .before .before .before .before .before .before .before .loop .at)) at (g .weighed));
-      raised = λ E k f. raise-gather (t .same) (filling-part (t .filling) (c .before .before .before .before .before .before .before .before .before .before .before .before .before .wide .result - c .before .before .before .before .before .before .before .before .before .before .before .before .before .before .before .before .loop .at) ∙ filed-part f here (t .start) (c .before .before .before .before .before .before .before .before .before .before .before .before .before .wide .ensures)) g k (t .raised E k f);
+      reading = read-on (t .reading) _ order room (g .leaves);
+      weighed = weighs-stretch _ _ _ order (t .weighed) (rw (read-part (t .reading) (c .before .before .before .before .before .before .before .before .before .before .before .before .before .wide .result - c .before .before .before .before .before .before .before .before .before .before .before .before .before .before .before .before .loop .at)) at (g .weighed));
+      raised = λ E k f. raise-gather (t .same) (read-part (t .reading) (c .before .before .before .before .before .before .before .before .before .before .before .before .before .wide .result - c .before .before .before .before .before .before .before .before .before .before .before .before .before .before .before .before .loop .at) ∙ filed-part f _ here (t .start) (c .before .before .before .before .before .before .before .before .before .before .before .before .before .wide .ensures)) g k (t .raised E k f);
     }
 
 same-length : tie.Need-same-length Inv-loop μ-loop
@@ -147,7 +148,7 @@ returns c =
       raised = λ E k f. raise-end k (c .loop-test .left) (t .raised E k f);
       last = t .start ∙ ap (begin _) done;
       weighed = t .weighed;
-      clear = t .filling;
+      leaves = t .reading;
     }
 
 pub raise-spec : {M : Type 1} → statement M

@@ -4,10 +4,15 @@ use Rattle.report.proofs.reporting.divide_and_reach.Statement.{statemen
 use Rattle.report.proofs.reporting.divide_and_reach.Tie as tie
 
 reaches-requires : tie.Need-reaches-requires
-reaches-requires c κs = search needs
+reaches-requires c κs =
+    let (es, q) = c .before .before .before .before .before .before .before .before .before .before .before .before .before .before .before .before .before .pre in
+    ((es, q .own, q .filed, q .edge-blocks), (q .reaches, q .division .carried, q .division .top, q .division .block, q .counts))
 
 cut-and-pack-requires : tie.Need-cut-and-pack-requires
-cut-and-pack-requires c κs = (c .before .before .before .before .before .before .before .before .before .before .before .before .before .before .before .before .before .before .before .before .before .before .before .before .before .before .before .before .before .before .before .before .before .pre .divisible, fitting-kept (c .before .before .before .before .before .before .before .before .before .before .before .before .before .before .before .before .before .before .before .before .before .before .before .before .before .before .before .before .before .before .before .before .before .pre .division) (c .before .before .before .before .before .before .before .before .before .before .before .before .before .before .before .before .reaches .kept .1 .1 .1 .1 .0) (c .before .before .before .before .before .before .before .before .before .before .before .before .before .before .before .before .reaches .kept .1 .1 .1 .1 .1 .0) (c .before .before .before .before .before .before .before .before .before .before .before .before .before .before .before .before .reaches .kept .1 .1 .1 .1 .1 .1 .0))
+cut-and-pack-requires c κs =
+    let (es, q) = c .before .before .before .before .before .before .before .before .before .before .before .before .before .before .before .before .before .before .before .before .before .before .before .before .before .before .before .before .before .before .before .before .before .before .pre in
+    let k = c .before .before .before .before .before .before .before .before .before .before .before .before .before .before .before .before .reaches .kept in
+    (q .divisible, fitting-kept (q .division) (k .1 .1 .1 .1 .1 .0) (k .1 .1 .1 .1 .1 .1 .0) (k .1 .1 .1 .1 .1 .1 .1 .0))
 
 same-length : tie.Need-same-length
 same-length c = search needs
@@ -31,7 +36,7 @@ same-length-7 : tie.Need-same-length-7
 same-length-7 c = search needs
 
 returns : tie.Need-returns
-returns c = search needs
+returns c = λ es q. record { divided-so = c .before .before .before .before .before .before .before .before .cut-and-pack .ensures; reached = c .before .before .before .before .before .before .before .before .before .before .before .before .before .before .before .before .before .before .before .before .before .before .before .before .before .reaches .ensures es (q .own) (q .filed) }
 
 pub divide-and-reach-spec : {M : Type 1} → statement M
 divide-and-reach-spec =

@@ -1,0 +1,79 @@
+-- A first list: starting a net and adding a list of edges to it gives the net of the list. Neither call is refused, where the list has no
+-- fault and the tables fit.
+-- Assumes nothing.
+use mathlib.Core.Path.{_≡_, sym, ap, _∙_}
+use mathlib.Core.List.{List, []}
+use Prim.Native.Nat.{ℕ, _+_, _%_, _≤_, _<_}
+use native.Mathlib.Omega.{arith}
+use lib.ListN.{length}
+use Rattle.game.specs.Edge.{Edge, edges}
+use Rattle.game.specs.Net.{Net, net, netOf, total}
+use Rattle.game.proofs.Proper.{proper-nil}
+use Rattle.game.proofs.Forest.{forest-length}
+use Rattle.game.proofs.Weights.{weights-charges, charges-count}
+use Rattle.refusal.specs.Limits.{maxVertices, maxEdges}
+use Rattle.refusal.specs.Refusal.{firstFault}
+use Rattle.refusal.specs.Verdict.{Verdict}
+use Rattle.refusal.specs.Outcome.{Outcome, ended, decided}
+use Rattle.refusal.proofs.First.{even-list, unless-accepted}
+use Rattle.growth.specs.Work.{Work, workOf, growing, cleared}
+use Rattle.starting.specs.Start.{startRefusal, startOutcome}
+use Rattle.adding.specs.Add.{addOutcome}
+use Rattle.adding.proofs.Accepted.{Addable}
+use Rattle.forest.proofs.Passes.{start-passes, add-passes}
+use Rattle.forest.proofs.Promise.{valid-whole, net-valid}
+use Rattle.forest.proofs.Laws.{grown-net}
+
+-- a list without a fault, within document 01's limits, and tables that fit
+pub record FirstList (xs : List ℕ) (lent : Net) (work : Work) : Type 0 where
+  pub some : 0 < length (lent .parents)
+  pub vertices : length (lent .parents) ≤ maxVertices
+  pub even : length xs % 2 ≡ 0
+  pub few : length (edges xs) ≤ maxEdges
+  pub faultless : firstFault (length (lent .parents)) (edges xs) ≡ 0
+  pub weights : length (lent .weights) ≡ length (lent .parents)
+  pub ends : length (work .ends) ≡ length (lent .parents)
+  pub jump : length (work .jump) ≡ length (lent .parents)
+  pub lower : length (work .lower) ≡ length (lent .parents) + length (edges xs)
+
+-- what an accepted call leaves
+accepted-tables : {X A : Type 0} (k : ℕ) (values : X) (was new : A) {v : Verdict X} {t : A} → ended v t ≡ decided k values was new → k ≡ 0 → t ≡ new
+unfolding decided
+accepted-tables k values was new e z = ap (λ (o : Outcome _ _). o .tables) e ∙ unless-accepted k was new z
+
+net-vertices : (n : ℕ) (es : List Edge) → length (netOf n es .parents) ≡ n
+unfolding netOf
+net-vertices n es = forest-length n es
+
+blank-total : (n : ℕ) → total (netOf n []) ≡ 0
+unfolding netOf
+blank-total n = weights-charges (proper-nil n) ∙ charges-count []
+
+-- the tables of no edge take the list
+blank-addable : {xs : List ℕ} {lent : Net} {work : Work} → FirstList xs lent work → Addable (growing (netOf (length (lent .parents)) []) work) xs
+blank-addable {xs} {lent} {work} c =
+    let n = length (lent .parents) in
+    let v = net-valid (c .some) (c .vertices) (proper-nil n) (omega (arith, charges-count [])) in
+    let vertices = net-vertices n [] in
+    record {
+      net = valid-whole v;
+      work = record { ends = c .ends ∙ sym vertices; jump = c .jump ∙ sym vertices; lower = c .lower ∙ ap (λ (m : ℕ). m + length (edges xs)) (sym vertices) };
+      even = even-list xs (c .even);
+      faultless = ap (λ (m : ℕ). firstFault m (edges xs)) vertices ∙ c .faultless;
+      light = omega (arith, blank-total n, charges-count (edges xs), c .few);
+    }
+
+-- starting, then adding
+module _ {p w xs e j l : List ℕ} (c : FirstList xs (net p w) (workOf e j l)) where
+  started : {m : Verdict (Unit {0})} {p′ w′ : List ℕ} → ended m (net p′ w′) ≡ startOutcome (net p w) → net p′ w′ ≡ netOf (length p) []
+  unfolding startOutcome
+  started o =
+      accepted-tables (startRefusal (net p w)) tt (net p w) (netOf (length p) []) o (start-passes (record { some = c .some; few = c .vertices; long = c .weights }))
+
+  pub first-net : {m m′ : Verdict (Unit {0})} {p′ w′ p″ w″ e″ j″ l″ : List ℕ} → ended m (net p′ w′) ≡ startOutcome (net p w)
+      → ended m′ (growing (net p″ w″) (workOf e″ j″ l″)) ≡ addOutcome (growing (net p′ w′) (workOf e j l)) xs
+      → growing (net p″ w″) (workOf e″ j″ l″) ≡ growing (netOf (length p) (edges xs)) (cleared (workOf e j l))
+  unfolding addOutcome
+  first-net s a =
+      accepted-tables _ _ _ _ (a ∙ ap (λ (of : Net). addOutcome (growing of (workOf e j l)) xs) (started s)) (add-passes (blank-addable c))
+      ∙ ap (λ (of : Net). growing of (cleared (workOf e j l))) (grown-net (edges xs) (omega (arith, c .vertices)) (proper-nil (length p)))
