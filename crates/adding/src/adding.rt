@@ -27,10 +27,16 @@ fn add_refusal(
     if weights.len() != n {
         return 2;
     }
-    if edges.len() % 2 != 0 {
+    if edges.len() % refusal::STRIDE != 0 {
         return 2;
     }
-    if growth::bad_work(n, n + edges.len() / 2, ends.len(), jump.len(), lower.len()) {
+    if growth::bad_work(
+        n,
+        n + edges.len() / refusal::STRIDE,
+        ends.len(),
+        jump.len(),
+        lower.len(),
+    ) {
         return 2;
     }
     let net = Net::of(weights);
@@ -41,7 +47,7 @@ fn add_refusal(
     if fault != 0 {
         return fault;
     }
-    if Net::MAX_TOTAL < net.total + (edges.len() / 2) as u64 {
+    if Net::MAX_TOTAL < net.total + (edges.len() / refusal::STRIDE) as u64 {
         return 20;
     }
     0

@@ -20,13 +20,14 @@ use Rattle.bucket.proofs.Reading.{filed-consecutive}
 use Rattle.bucket.proofs.Tallied.{tallied-zeros}
 use Rattle.refusal.specs.Refusal.{firstFault}
 use Rattle.growth.specs.Work.{Work, workOf, cleared}
-use Rattle.growth.specs.Growth.{Bare, Light, Grown}
+use Rattle.growth.specs.Growth.{Growable, Light, Grown}
+use Rattle.growth.proofs.NewParents.{links-blank}
 use Rattle.growth.proofs.Regrown.{grown-filed}
 use Rattle.compare.specs.Compare.{sameNet}
-use Rattle.compare.specs.Steps.{Growable, GrowsNet, Comparable, Compared}
+use Rattle.compare.specs.Steps.{ListFits, GrowsNet, Comparable, Compared}
 
 -- tables of a size that fits, blank, and the edges filed: a forest can be grown
-module _ {xs p w e j l : List ℕ} (c : Growable xs (net p w) (workOf e j l)) {p′ w′ e′ l′ : List ℕ} (blank : p′ ≡ replicate (length p) absent)
+module _ {xs p w e j l : List ℕ} (c : ListFits xs (net p w) (workOf e j l)) {p′ w′ e′ l′ : List ℕ} (blank : p′ ≡ replicate (length p) absent)
     (light : w′ ≡ replicate (length w) 0) (f : Filed (length e) (edges xs) e′ l′) (long : length l′ ≡ length l) where
   filed : Filed (length p) (edges xs) e′ l′
   filed = subst (λ (n : ℕ). Filed n (edges xs) e′ l′) (c .ends) f
@@ -34,20 +35,21 @@ module _ {xs p w e j l : List ℕ} (c : Growable xs (net p w) (workOf e j l)) {p
   small : length l′ < 2 ^ 32
   small = omega (arith, long, c .lower, c .vertices, c .few)
 
-  pub net-bare : Bare e′ l′ w′ p′ j
-  net-bare =
-      record {
-        blank = blank ∙ ap (λ (n : ℕ). replicate n absent) (sym (filed .long));
-        long-jump = c .jump ∙ sym (filed .long);
-        buckets = filed-consecutive filed (c .vertices);
-        light = record { light = λ v h. let n = rw light at h in omega (arith, ap (λ (t : List ℕ). getD t v 0) light, getD-replicate {A = ℕ} (length w) v 0 0 (omega (arith, ap length light, length-replicate {A = ℕ} (length w) 0)), small) };
-      }
+  pub net-growable : Growable e′ l′ p′ j × Light w′ l′
+  net-growable = (
+    record {
+      long = ap length blank ∙ length-replicate (length p) absent ∙ sym (filed .long);
+      long-jump = c .jump ∙ sym (filed .long);
+      buckets = filed-consecutive filed (c .vertices);
+    },
+    record { light = λ v h. let n = rw light at h in omega (arith, ap (λ (t : List ℕ). getD t v 0) light, getD-replicate {A = ℕ} (length w) v 0 0 (omega (arith, ap length light, length-replicate {A = ℕ} (length w) 0)), small) },
+  )
 
   -- and it is the net of the edges
-  pub net-grown : {p″ w″ j″ l″ : List ℕ} → Grown e′ l′ w′ p″ w″ → l″ ≡ l′ → GrowsNet xs (net p w) (net p″ w″) (workOf e′ j″ l″)
+  pub net-grown : {p″ w″ j″ l″ : List ℕ} → Grown e′ l′ w′ p′ p″ w″ → l″ ≡ l′ → GrowsNet xs (net p w) (net p″ w″) (workOf e′ j″ l″)
   unfolding netOf weights
   net-grown {p″} {w″} g kept =
-      let (a, b) = grown-filed filed g in
+      let (a, b) = grown-filed filed (links-blank (edges xs) (blank ∙ ap (λ (n : ℕ). replicate n absent) (sym (ap length blank ∙ length-replicate (length p) absent)))) g in
       record {
         is = ap₂ net a (b ∙ zeros);
         filed = subst (Filed (length p) (edges xs) e′) (sym kept) filed;

@@ -14,7 +14,7 @@ use Rattle.growth.specs.Work.{Work, cleared}
 use Rattle.compare.specs.Compare.{sameNet}
 
 -- what growing is given: a list of edges without a fault, within document 01's limits, and tables that fit
-pub record Growable (xs : List ℕ) (lent : Net) (work : Work) : Type 0 where
+pub record ListFits (xs : List ℕ) (lent : Net) (work : Work) : Type 0 where
   pub vertices : length (lent .parents) ≤ maxVertices
   pub few : length (edges xs) ≤ maxEdges
   pub faultless : firstFault (length (lent .parents)) (edges xs) ≡ 0
@@ -30,7 +30,7 @@ pub record GrowsNet (xs : List ℕ) (lent grown : Net) (work : Work) : Type 0 wh
 
 -- what comparing is given: that, for a net of as many vertices
 pub record Comparable (of : Net) (xs : List ℕ) (lent : Net) (work : Work) : Type 0 where
-  pub growable : Growable xs lent work
+  pub growable : ListFits xs lent work
   pub parents : length (of .parents) ≡ length (lent .parents)
   pub weights : length (of .weights) ≡ length (lent .parents)
 

@@ -9,7 +9,7 @@ ghost use Rattle.game.specs.Net.{net};
 ghost use Rattle.refusal.specs.Refusal.{wrongLength};
 ghost use Rattle.growth.specs.Work.{workOf};
 ghost use Rattle.compare.specs.Compare.{sameTable, sameNet, listRefusal};
-ghost use Rattle.compare.specs.Steps.{Growable, GrowsNet, Comparable, Compared};
+ghost use Rattle.compare.specs.Steps.{ListFits, GrowsNet, Comparable, Compared};
 
 // Refusal 2 of the comparison tables and the work tables, by their lengths: n vertices, and `both` for vertices and edges together.
 pub fn wrong_compared(
@@ -34,7 +34,7 @@ pub fn list_refusal(n: usize, edges: &[u32]) -> u32
     if fault != 0 {
         return fault;
     }
-    if refusal::MAX_EDGES < edges.len() / 2 {
+    if refusal::MAX_EDGES < edges.len() / refusal::STRIDE {
         return 20;
     }
     0
@@ -64,7 +64,7 @@ fn grow_net(
     jump: &mut [u32],
     lower: &mut [u32],
 )
-    requires { ⌜ Growable (now edges) (net (now parents) (now weights)) (workOf (now ends) (now jump) (now lower)) ⌝ }
+    requires { ⌜ ListFits (now edges) (net (now parents) (now weights)) (workOf (now ends) (now jump) (now lower)) ⌝ }
     ensures { λ _. ⌜ GrowsNet (now (edges .entry)) (net (now (parents .entry)) (now (weights .entry))) (net (now (parents .exit)) (now (weights .exit)))
         (workOf (now (ends .exit)) (now (jump .exit)) (now (lower .exit))) ⌝ }
 {

@@ -17,7 +17,8 @@ use Rattle.game.proofs.Conn.{Conn, stay, conn-trans, conn-sym, conn-up, conn-st
 use Rattle.game.specs.Graph.{Linked, forth, back}
 use Rattle.game.proofs.Sound.{getD-default}
 use Rattle.game.proofs.Links.{link-set-old, link-set-new}
-use Rattle.growth.specs.Growth.{Root, Above, Known, known, passed, Child, Standing, Climbing, Climbed, Upward}
+use Rattle.growth.specs.Growth.{Root, Above, Known, known, passed, Child, Standing, Climbing, Climbed, Upward, newParents}
+use Rattle.growth.proofs.NewParents.{new-length, new-pass, new-link}
 
 -- the walker's own height: y is joined to wherever the walk from u stands
 edge-on : {n y u w : ℕ} {E : List Edge} {was p jump : List ℕ} → Climbing n E y u w was p jump → Conn E y w y
@@ -212,17 +213,23 @@ climb-start {n} {y} {u} {E} {p} {jump} s top low e = record {
     begun : (z : ℕ) → Child E y 0 p jump z → Child E y u p jump z
     begun z k = record { parent = k .parent; leap = k .leap; joined = on z (k .joined) }
 
--- The same as the code reads its tables, by a default of 0.
-module _ {n y u w : ℕ} {E : List Edge} {was p jump : List ℕ} (c : Climbing n E y u w was p jump) (low : w < y) where
+-- The same as the code has its tables: it reads by a default of 0, and the new parents stand among old ones.
+module _ (p : List ℕ) {n y u w : ℕ} {E : List Edge} {was jump : List ℕ} (c : Climbing n E y u w was (newParents p jump) jump) (low : w < y) where
   read : getD jump w 0 ≡ getD jump w absent
   read = getD-default jump w 0 absent (inside c low)
 
-  pub climb-jump : getD jump w 0 ≢ absent → Climbing n E y u (getD jump w 0) was p (set jump w y)
-  climb-jump some =
-      subst (λ (x : ℕ). Climbing n E y u x was p (set jump w y)) (sym read) (climb-on c low (λ e. some (read ∙ e)))
+  high-real : y ≢ absent
+  high-real = omega (arith, c .top, c .standing .small)
 
-  pub climb-root : getD jump w 0 ≡ absent → Climbed n E y u was (set p w y) (set jump w y)
-  climb-root none = climb-link c low (sym read ∙ none)
+  pub climb-jump : getD jump w 0 ≢ absent → Climbing n E y u (getD jump w 0) was (newParents p (set jump w y)) (set jump w y)
+  climb-jump some =
+      rw (new-pass p jump (inside c low) high-real (λ e. some (read ∙ e)))
+      (subst (λ (x : ℕ). Climbing n E y u x was (newParents p jump) (set jump w y)) (sym read) (climb-on c low (λ e. some (read ∙ e))))
+
+  pub climb-root : getD jump w 0 ≡ absent → Climbed n E y u was (newParents (set p w y) (set jump w y)) (set jump w y)
+  climb-root none =
+      rw (new-link p jump (inside c low) high-real (omega (arith, below c low, c .standing .long, new-length p jump)))
+      (climb-link c low (sym read ∙ none))
 
 -- a jump to y, higher than where it starts, leaves the table of jumps upward
 pub upward-set : {n : ℕ} {jump : List ℕ} (w y : ℕ) → w < y → Upward n jump → Upward n (set jump w y)

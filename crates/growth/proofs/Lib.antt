@@ -1,3 +1,4 @@
+pub mod NewParents
 pub mod Climb
 pub mod Weigh
 pub mod Raise

@@ -24,6 +24,7 @@ use Rattle.game.proofs.Links.{links-proper}
 use Rattle.bucket.specs.Filed.{Filed}
 use Rattle.refusal.proofs.First.{first-none}
 use Rattle.growth.specs.Growth.{Regrows}
+use Rattle.growth.proofs.NewParents.{links-in}
 use Rattle.growth.proofs.Regrown.{regrown}
 use Rattle.growth.specs.Putting.{Alike, pending, Table, Exchanged, Put, PutUpTo, Extendable}
 use Rattle.growth.proofs.Exchange.{exchange-root, exchange-on, exchange-swap, spent-alike}
@@ -188,9 +189,9 @@ module _ {p xs ends jump lower q ys : List ℕ} {i : ℕ} (e : Extendable p xs e
   rest-proper = proper-append (links-proper (sound-true q (u .sound))) (faultless-proper (length q) (edges ys) rest-faultless)
 
   -- what is filed of it is grown to the forest of the whole
-  pub rest-grown : {ends′ lower′ jump p′ ends″ lower″ jump″ : List ℕ} → Filed (length q) (links q ++ edges ys) ends′ lower′ → Regrows ends′ lower′ jump p′ ends″ lower″ jump″ → p′ ≡ forest (length p) (links p ++ edges xs)
+  pub rest-grown : {ends′ lower′ jump p′ ends″ lower″ jump″ : List ℕ} → Filed (length q) (links q ++ edges ys) ends′ lower′ → Regrows ends′ lower′ q jump p′ ends″ lower″ jump″ → p′ ≡ forest (length p) (links p ++ edges xs)
   rest-grown f g =
-      regrown rest-proper f g
+      regrown rest-proper f (links-in (sound-true q (u .sound)) (edges ys)) g
       ∙ ap (λ (m : ℕ). forest m (links q ++ edges ys)) (u .same)
       ∙ ap (λ (zs : List ℕ). forest (length p) (links q ++ edges zs)) y
       ∙ put-rest u (length p)

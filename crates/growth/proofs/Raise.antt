@@ -21,7 +21,7 @@ use Rattle.game.proofs.Links.{link-of, link-inv, link-up, links-proper}
 use Rattle.game.proofs.Forest.{forest-unique}
 use Rattle.bucket.specs.Filed.{lowerEnds}
 use Rattle.bucket.proofs.LowerEnds.{lower-ends-linked, linked-lower-ends}
-use Rattle.growth.specs.Growth.{Above, Known, known, passed, Child, Standing, Kept, Climbed, Climbs, Offers, Gathered, Gathers, Raised}
+use Rattle.growth.specs.Growth.{Above, Known, known, passed, Child, Standing, Kept, Climbed, Climbs, Offers, Gathered, Gathers, Raised, newParents}
 
 -- walks in the forest stay walks while parents are kept
 kept-conn : {was p : List ℕ} → length was ≡ length p → Kept was p → {t a b : ℕ} → Conn (links was) t a b → Conn (links p) t a b
@@ -52,9 +52,9 @@ gather-step {y = y} {k = k} {bucket = bucket} {p = p} {p′ = p′} g c = record
 }
 
 -- the same by what a climb promises
-pub gather-climb : {n y k u : ℕ} {E : List Edge} {bucket was p jump p′ jump′ : List ℕ} → length p ≡ n → u ≡ getD bucket k 0 → Climbs u y p jump p′ jump′ → (getD bucket k 0 < y) × Conn E y (getD bucket k 0) y → Gathered n E y k bucket was p jump → Gathered n E y (k + 1) bucket was p′ jump′
+pub gather-climb : {n y k u : ℕ} {E : List Edge} {bucket was p jump p′ jump′ : List ℕ} → length p ≡ n → u ≡ getD bucket k 0 → Climbs u y p jump p′ jump′ → (getD bucket k 0 < y) × Conn E y (getD bucket k 0) y → Gathered n E y k bucket was (newParents p jump) jump → Gathered n E y (k + 1) bucket was (newParents p′ jump′) jump′
 gather-climb {y = y} {k = k} {E = E} {bucket = bucket} {was = was} {p = p} {jump = jump} {p′ = p′} {jump′ = jump′} e q c o =
-    subst (λ (m : ℕ). Gathered m E y k bucket was p jump → Gathered m E y (k + 1) bucket was p′ jump′) e
+    subst (λ (m : ℕ). Gathered m E y k bucket was (newParents p jump) jump → Gathered m E y (k + 1) bucket was (newParents p′ jump′) jump′) e
     (λ g. gather-step g (subst (λ (x : ℕ). Climbs x y p jump p′ jump′) q c .climbed E (g .standing) (o .0) (o .1)))
 
 -- as much as there is
@@ -109,13 +109,13 @@ raise-step {n} {y} {E} {p} {p′ = p′} r g = record { standing = standing-up (
         (λ (d : b ≢ y). kept-conn (r .standing .long ∙ sym (g .standing .long)) (g .kept) (r .covered a b l low (omega arith)))
 
 -- the same by what gathering promises of the bucket that is filed
-pub raise-gather : {n y : ℕ} {E : List Edge} {keep : Bool} {bucket weights p jump bucket′ weights′ p′ jump′ : List ℕ} → length p ≡ n → bucket ≡ lowerEnds E y → Gathers y keep bucket weights p jump bucket′ weights′ p′ jump′ → Proper n E → Raised n E y p jump → Raised n E (y + 1) p′ jump′
+pub raise-gather : {n y : ℕ} {E : List Edge} {keep : Bool} {bucket weights p jump bucket′ weights′ p′ jump′ : List ℕ} → length p ≡ n → bucket ≡ lowerEnds E y → Gathers y keep bucket weights p jump bucket′ weights′ p′ jump′ → Proper n E → Raised n E y (newParents p jump) jump → Raised n E (y + 1) (newParents p′ jump′) jump′
 raise-gather {n} {y} {E} {bucket} {p = p} {jump = jump} {p′ = p′} {jump′ = jump′} e b g proper r =
-    raise-step r (subst (λ (us : List ℕ). Gathered n E y (length us) us p p′ jump′) b (gathered e r))
+    raise-step r (subst (λ (us : List ℕ). Gathered n E y (length us) us (newParents p jump) (newParents p′ jump′) jump′) b (gathered e r))
   where
-    gathered : {m : ℕ} → length p ≡ m → Raised m E y p jump → Gathered m E y (length bucket) bucket p p′ jump′
-    gathered e = subst (λ (m : ℕ). Raised m E y p jump → Gathered m E y (length bucket) bucket p p′ jump′) e
-        (λ (q : Raised (length p) E y p jump). g .gathered E (q .standing) (subst (Offers E y) (sym b) (offers-own proper y)))
+    gathered : {m : ℕ} → length p ≡ m → Raised m E y (newParents p jump) jump → Gathered m E y (length bucket) bucket (newParents p jump) (newParents p′ jump′) jump′
+    gathered e = subst (λ (m : ℕ). Raised m E y (newParents p jump) jump → Gathered m E y (length bucket) bucket (newParents p jump) (newParents p′ jump′) jump′) e
+        (λ (q : Raised (length p) E y (newParents p jump) jump). g .gathered E (q .standing) (subst (Offers E y) (sym b) (offers-own proper y)))
 
 -- all vertices raised: the table is the elimination forest
 module _ {n y : ℕ} {E : List Edge} {p jump : List ℕ} (proper : Proper n E) (done : n ≤ y) (r : Raised n E y p jump) where

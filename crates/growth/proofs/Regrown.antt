@@ -18,16 +18,16 @@ use Rattle.refusal.specs.Limits.{maxVertices}
 use Rattle.bucket.specs.Ends.{tallied}
 use Rattle.bucket.specs.Filed.{Filed}
 use Rattle.bucket.proofs.Reading.{filed-consecutive}
-use Rattle.growth.specs.Growth.{Light, Grown, Regrowable, Regrows}
+use Rattle.growth.specs.Growth.{Light, LinksIn, Grown, Growable, Regrows}
 
 -- what is filed has room to be grown
-pub filed-regrowable : {n : ℕ} {E : List Edge} {ends lower p jump : List ℕ} → Filed n E ends lower → n ≤ maxVertices → length p ≡ n → length jump ≡ n → Regrowable ends lower p jump
-filed-regrowable f few e g = record { long = e ∙ sym (f .long); long-jump = g ∙ sym (f .long); buckets = filed-consecutive f few }
+pub filed-growable : {n : ℕ} {E : List Edge} {ends lower p jump : List ℕ} → Filed n E ends lower → n ≤ maxVertices → length p ≡ n → length jump ≡ n → Growable ends lower p jump
+filed-growable f few e g = record { long = e ∙ sym (f .long); long-jump = g ∙ sym (f .long); buckets = filed-consecutive f few }
 
 -- what was filed is grown
-pub regrown : {n : ℕ} {E : List Edge} {ends lower jump p′ ends′ lower′ jump′ : List ℕ} → Proper n E → Filed n E ends lower → Regrows ends lower jump p′ ends′ lower′ jump′ → p′ ≡ forest n E
-regrown {n} {E} {ends} {lower} {p′ = p′} k f r =
-    subst (λ (m : ℕ). Proper m E → Filed m E ends lower → p′ ≡ forest m E) (f .long) (r .grown E) k f
+pub regrown : {n : ℕ} {E : List Edge} {ends lower p jump p′ ends′ lower′ jump′ : List ℕ} → Proper n E → Filed n E ends lower → LinksIn p E → Regrows ends lower p jump p′ ends′ lower′ jump′ → p′ ≡ forest n E
+regrown {n} {E} {ends} {lower} {p} {p′ = p′} k f i r =
+    subst (λ (m : ℕ). Proper m E → Filed m E ends lower → p′ ≡ forest m E) (f .long) (λ g h. r .grown E g h i) k f
 
 -- a table in which each entry is absent has no parents
 pub all-absent : (p : List ℕ) → ((k : ℕ) → k < length p → getD p k 0 ≡ absent) → p ≡ replicate (length p) absent
@@ -36,9 +36,9 @@ all-absent p h =
     (λ k l. h k l ∙ sym (getD-replicate (length p) k absent 0 l))
 
 -- what was filed is grown with its weights
-pub grown-filed : {n : ℕ} {E : List Edge} {ends lower weights p′ weights′ : List ℕ} → Filed n E ends lower → Grown ends lower weights p′ weights′ → (p′ ≡ forest n E) × (weights′ ≡ tallied false E weights)
-grown-filed {n} {E} {ends} {lower} {weights} {p′ = p′} {weights′ = weights′} f g =
-    subst (λ (m : ℕ). Proper m E → Filed m E ends lower → (p′ ≡ forest m E) × (weights′ ≡ tallied false E weights)) (f .long) (λ k h. (g .parents E k h, g .weighed E h)) (f .proper) f
+pub grown-filed : {n : ℕ} {E : List Edge} {ends lower weights p p′ weights′ : List ℕ} → Filed n E ends lower → LinksIn p E → Grown ends lower weights p p′ weights′ → (p′ ≡ forest n E) × (weights′ ≡ tallied false E weights)
+grown-filed {n} {E} {ends} {lower} {weights} {p′ = p′} {weights′ = weights′} f i g =
+    subst (λ (m : ℕ). Proper m E → Filed m E ends lower → (p′ ≡ forest m E) × (weights′ ≡ tallied false E weights)) (f .long) (λ k h. (g .parents E k h i, g .weighed E h)) (f .proper) f
 
 -- without old links the edges are all there is
 pub first-links : (E : List Edge) {n : ℕ} {p : List ℕ} → p ≡ replicate (length p) absent → n ≡ length p → forest n E ≡ forest (length p) (links p ++ E)

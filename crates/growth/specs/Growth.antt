@@ -5,12 +5,12 @@
 -- Assumes nothing.
 use mathlib.Core.Path.{_≡_}
 use mathlib.Core.Logic.{_⊎_}
-use mathlib.Core.Bool.{Bool, true, false}
+use mathlib.Core.Bool.{Bool, true, false, cond}
 use mathlib.Core.List.{List, _++_}
 use Prim.Native.Nat.{ℕ, _+_, _^_, _≤_, _<_}
 use lib.Dec.{eqb}
 use lib.ListN.{length, getD, take, drop, replicate}
-use Rattle.game.specs.Table.{count}
+use Rattle.game.specs.Table.{tabulate, count}
 use Rattle.game.specs.Edge.{Edge}
 use Rattle.game.specs.Game.{absent, forest}
 use Rattle.game.specs.Tree.{links}
@@ -74,10 +74,21 @@ pub record Upward (n : ℕ) (jump : List ℕ) : Type 0 where
   pub long : length jump ≡ n
   pub up : (z : ℕ) → z < n → (getD jump z 0 ≡ absent) ⊎ (z < getD jump z 0)
 
+-- The parents that growing has written: those of the vertices that have a jump. What the table holds for others is left from before, so
+-- that a vertex which gets its parent can be told from what it had.
+unfoldable pub newParents : (p jump : List ℕ) → List ℕ
+newParents p jump = tabulate (length p) (λ (z : ℕ). cond (eqb (getD jump z absent) absent) absent (getD p z absent))
+
+-- vertices that have no jump had none, and are as they were
+pub record Untouched (p jump p′ jump′ : List ℕ) : Type 0 where
+  pub each : (z : ℕ) → getD jump′ z absent ≡ absent → (getD jump z absent ≡ absent) × (getD p′ z absent ≡ getD p z absent)
+
 -- what a climb from u for y promises, for whatever graph the tables stand for
 pub record Climbs (u y : ℕ) (p jump p′ jump′ : List ℕ) : Type 0 where
   pub upward : Upward (length p) jump′
-  pub climbed : (E : List Edge) → Standing (length p) E y 0 p jump → u < y → Conn E y u y → Climbed (length p) E y u p p′ jump′
+  pub untouched : Untouched p jump p′ jump′
+  pub climbed : (E : List Edge) → Standing (length p) E y 0 (newParents p jump) jump → u < y → Conn E y u y
+      → Climbed (length p) E y u (newParents p jump) (newParents p′ jump′) jump′
 
 -- each vertex of a list is weighed: 1 is added to its weight, if the table has one for it
 pub record Weighs (us weights weights′ : List ℕ) : Type 0 where
@@ -110,7 +121,9 @@ pub record Gathers (y : ℕ) (keep : Bool) (bucket weights p jump bucket′ weig
   pub upward : Upward (length p) jump′
   pub leaves : bucket′ ≡ leftOf keep bucket
   pub weighed : Weighs bucket weights weights′
-  pub gathered : (E : List Edge) → Standing (length p) E y 0 p jump → Offers E y bucket → Gathered (length p) E y (length bucket) bucket p p′ jump′
+  pub untouched : Untouched p jump p′ jump′
+  pub gathered : (E : List Edge) → Standing (length p) E y 0 (newParents p jump) jump → Offers E y bucket
+      → Gathered (length p) E y (length bucket) bucket (newParents p jump) (newParents p′ jump′) jump′
 
 -- the vertices below y are raised: every edge with an upper end below y is a walk in the forest
 pub record Raised (n : ℕ) (E : List Edge) (y : ℕ) (p jump : List ℕ) : Type 0 where
@@ -121,50 +134,48 @@ pub record Raised (n : ℕ) (E : List Edge) (y : ℕ) (p jump : List ℕ) : Type
 pub record Light (weights lower : List ℕ) : Type 0 where
   pub light : (v : ℕ) → v < length weights → getD weights v 0 + length lower < 2 ^ 32
 
--- the tables before raising: no vertex has a parent or a jump
+-- the tables before raising: no vertex has a jump
 pub record Blank (ends lower weights p jump : List ℕ) : Type 0 where
-  pub blank : p ≡ replicate (length ends) absent
+  pub long : length p ≡ length ends
   pub blank-jump : jump ≡ replicate (length ends) absent
   pub buckets : Consecutive ends lower
   pub light : Light weights lower
 
--- what raising promises: the parents are the elimination forest of whatever graph is filed, the weights are those of the buckets, which
+-- what raising promises: the new parents are the elimination forest of whatever graph is filed, the weights are those of the buckets, which
 -- are kept or cleared
-pub record Raises (keep : Bool) (ends lower weights lower′ weights′ p : List ℕ) (end : ℕ) : Type 0 where
-  pub raised : (E : List Edge) → Proper (length ends) E → Filed (length ends) E ends lower → p ≡ forest (length ends) E
+pub record Raises (keep : Bool) (ends lower weights p jump lower′ weights′ p′ jump′ : List ℕ) (end : ℕ) : Type 0 where
+  pub raised : (E : List Edge) → Proper (length ends) E → Filed (length ends) E ends lower → newParents p′ jump′ ≡ forest (length ends) E
+  pub untouched : Untouched p jump p′ jump′
   pub last : end ≡ begin ends (length ends)
   pub weighed : Weighs (take end lower) weights weights′
   pub leaves : ReadUpTo keep lower end lower′
 
--- a forest can be grown from what is filed in a table without parents
-pub record Bare (ends lower weights p jump : List ℕ) : Type 0 where
-  pub blank : p ≡ replicate (length ends) absent
-  pub long-jump : length jump ≡ length ends
-  pub buckets : Consecutive ends lower
-  pub light : Light weights lower
-
--- a net is grown: it has the parents of whatever graph was filed, and the weights that the graph adds
-pub record Grown (ends lower weights p′ weights′ : List ℕ) : Type 0 where
-  pub parents : (E : List Edge) → Proper (length ends) E → Filed (length ends) E ends lower → p′ ≡ forest (length ends) E
-  pub weighed : (E : List Edge) → Filed (length ends) E ends lower → weights′ ≡ tallied false E weights
-
--- what growing promises: a grown net, and cleared work tables
-pub record Grows (ends lower weights jump p′ weights′ ends′ lower′ jump′ : List ℕ) : Type 0 where
-  pub grown : Grown ends lower weights p′ weights′
-  pub clear : workOf ends′ jump′ lower′ ≡ cleared (workOf ends jump lower)
-
--- what growing promises where the buckets are kept
-pub record GrowsKept (ends lower weights p′ weights′ lower′ : List ℕ) : Type 0 where
-  pub grown : Grown ends lower weights p′ weights′
-  pub kept : lower′ ≡ lower
-
--- a forest can be grown anew from what is filed, whatever the tables hold: their lengths fit
-pub record Regrowable (ends lower p jump : List ℕ) : Type 0 where
+-- a forest can be grown from what is filed: the tables' lengths fit
+pub record Growable (ends lower p jump : List ℕ) : Type 0 where
   pub long : length p ≡ length ends
   pub long-jump : length jump ≡ length ends
   pub buckets : Consecutive ends lower
 
--- what growing anew promises: the parents of whatever graph was filed, and cleared work tables
-pub record Regrows (ends lower jump p′ ends′ lower′ jump′ : List ℕ) : Type 0 where
-  pub grown : (E : List Edge) → Proper (length ends) E → Filed (length ends) E ends lower → p′ ≡ forest (length ends) E
+-- the links of a table are edges of a graph, upward
+pub record LinksIn (p : List ℕ) (E : List Edge) : Type 0 where
+  pub each : (z : ℕ) → z < length p → (getD p z absent ≡ absent → ⊥) → Linked E z (getD p z absent) × (z < getD p z absent)
+
+-- a net is grown: it has the parents of whatever graph was filed, if that has the old links, and the weights that the graph adds
+pub record Grown (ends lower weights p p′ weights′ : List ℕ) : Type 0 where
+  pub parents : (E : List Edge) → Proper (length ends) E → Filed (length ends) E ends lower → LinksIn p E → p′ ≡ forest (length ends) E
+  pub weighed : (E : List Edge) → Filed (length ends) E ends lower → weights′ ≡ tallied false E weights
+
+-- what growing promises: a grown net, and cleared work tables
+pub record Grows (ends lower weights p jump p′ weights′ ends′ lower′ jump′ : List ℕ) : Type 0 where
+  pub grown : Grown ends lower weights p p′ weights′
+  pub clear : workOf ends′ jump′ lower′ ≡ cleared (workOf ends jump lower)
+
+-- what growing promises where the buckets are kept
+pub record GrowsKept (ends lower weights p p′ weights′ lower′ : List ℕ) : Type 0 where
+  pub grown : Grown ends lower weights p p′ weights′
+  pub kept : lower′ ≡ lower
+
+-- what growing without weights promises: the parents of whatever graph was filed, and cleared work tables
+pub record Regrows (ends lower p jump p′ ends′ lower′ jump′ : List ℕ) : Type 0 where
+  pub grown : (E : List Edge) → Proper (length ends) E → Filed (length ends) E ends lower → LinksIn p E → p′ ≡ forest (length ends) E
   pub clear : workOf ends′ jump′ lower′ ≡ cleared (workOf ends jump lower)

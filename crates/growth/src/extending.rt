@@ -38,7 +38,7 @@ pub fn extend(
     requires { ⌜ Extendable (now parents) (now edges) (now ends) (now jump) (now lower) × Weighable (now parents) (now weights) (now lower) ⌝ }
     ensures { λ _. ⌜ Extends (now (parents .entry)) (now (edges .entry)) (now (ends .entry)) (now (jump .entry)) (now (lower .entry)) (now (parents .exit)) (now (ends .exit)) (now (jump .exit)) (now (lower .exit)) × (now (weights .exit) ≡ tallied false (edgesOf (now (edges .entry))) (now (weights .entry))) ⌝ }
 {
-    if putting::is_long(parents.len(), edges.len() / 2) {
+    if putting::is_long(parents.len(), edges.len() / refusal::STRIDE) {
         if is_blank(parents) {
             bucket::file_list(edges, ends, lower);
             grow::grow(parents, weights, ends, jump, lower);

@@ -6,13 +6,14 @@ ghost use mathlib.Core.Bool.{cond};
 ghost use mathlib.Core.List.{[], _∷_};
 ghost use Prim.Native.Nat.{ℕ, _+_, _^_, _<_, _≤_};
 ghost use lib.ListN.{length, getD, take, replicate};
+ghost use Rattle.refusal.specs.Limits.{maxVertices};
 ghost use Rattle.growth.specs.Work.{workOf, cleared};
-ghost use Rattle.growth.specs.Growth.{Upward, Climbs, Weighs, Light, Gathers, Blank, Raises, Bare, Grows, GrowsKept, Regrowable, Regrows};
+ghost use Rattle.growth.specs.Growth.{Upward, Climbs, Weighs, Light, Gathers, Blank, Raises, Growable, Grows, GrowsKept, Regrows};
 
 // Makes the root of u's tree a child of y, and every vertex on the way jump to y. A vertex jumps higher than it stands, so
 // the climb ends.
 fn climb(u: u32, y: u32, parents: &mut [u32], jump: &mut [u32])
-    requires { ⌜ (y < length (now parents)) × Upward (length (now parents)) (now jump) ⌝ }
+    requires { ⌜ (y < length (now parents)) × (length (now parents) ≤ maxVertices) × Upward (length (now parents)) (now jump) ⌝ }
     ensures { λ _. ⌜ Climbs u y (now (parents .entry)) (now (jump .entry)) (now (parents .exit)) (now (jump .exit)) ⌝ }
 {
     let mut w = u;
@@ -55,7 +56,7 @@ fn gather(
     parents: &mut [u32],
     jump: &mut [u32],
 )
-    requires { ⌜ (y < length (now parents)) × Upward (length (now parents)) (now jump) × Light (now weights) (now bucket) ⌝ }
+    requires { ⌜ (y < length (now parents)) × (length (now parents) ≤ maxVertices) × Upward (length (now parents)) (now jump) × Light (now weights) (now bucket) ⌝ }
     ensures { λ _. ⌜ Gathers y keep (now (bucket .entry)) (now (weights .entry)) (now (parents .entry)) (now (jump .entry)) (now (bucket .exit)) (now (weights .exit)) (now (parents .exit)) (now (jump .exit)) ⌝ }
 {
     let mut i = 0;
@@ -68,8 +69,9 @@ fn gather(
     }
 }
 
-// Raises the vertices upward, each with its bucket of lower ends, from blank tables to the forest of the graph that is filed. Answers
-// where the last bucket ends: so far the table of lower ends is kept or cleared.
+// Raises the vertices upward, each with its bucket of lower ends, to the forest of the graph that is filed. A vertex has its new parent
+// when it has a jump; before that its entry is left from before. Answers where the last bucket ends: so far the table of lower ends is
+// kept or cleared.
 fn raise(
     keep: bool,
     ends: &[u32],
@@ -79,7 +81,7 @@ fn raise(
     jump: &mut [u32],
 ) -> usize
     requires { ⌜ Blank (now ends) (now lower) (now weights) (now parents) (now jump) ⌝ }
-    ensures { λ r. ⌜ Raises keep (now (ends .entry)) (now (lower .entry)) (now (weights .entry)) (now (lower .exit)) (now (weights .exit)) (now (parents .exit)) r ⌝ }
+    ensures { λ r. ⌜ Raises keep (now (ends .entry)) (now (lower .entry)) (now (weights .entry)) (now (parents .entry)) (now (jump .entry)) (now (lower .exit)) (now (weights .exit)) (now (parents .exit)) (now (jump .exit)) r ⌝ }
 {
     let mut at = 0;
     let mut y = 0;
@@ -102,8 +104,8 @@ pub fn clear(ends: &mut [u32], jump: &mut [u32], lower: &mut [u32], from: usize)
     table::fill(&mut lower[from..], 0);
 }
 
-// Grows the forest of the graph that is filed in a table without parents, adds the weights that the graph gives, and clears the work
-// tables.
+// Grows the forest of the graph that is filed, which has the links that the table of parents holds, adds the weights that the graph
+// gives, and clears the work tables.
 pub fn grow(
     parents: &mut [u32],
     weights: &mut [u32],
@@ -111,8 +113,8 @@ pub fn grow(
     jump: &mut [u32],
     lower: &mut [u32],
 )
-    requires { ⌜ Bare (now ends) (now lower) (now weights) (now parents) (now jump) ⌝ }
-    ensures { λ _. ⌜ Grows (now (ends .entry)) (now (lower .entry)) (now (weights .entry)) (now (jump .entry)) (now (parents .exit)) (now (weights .exit)) (now (ends .exit)) (now (lower .exit)) (now (jump .exit)) ⌝ }
+    requires { ⌜ Growable (now ends) (now lower) (now parents) (now jump) × Light (now weights) (now lower) ⌝ }
+    ensures { λ _. ⌜ Grows (now (ends .entry)) (now (lower .entry)) (now (weights .entry)) (now (parents .entry)) (now (jump .entry)) (now (parents .exit)) (now (weights .exit)) (now (ends .exit)) (now (lower .exit)) (now (jump .exit)) ⌝ }
 {
     table::fill(jump, Net::ABSENT);
     let end = raise(false, ends, lower, weights, parents, jump);
@@ -127,8 +129,8 @@ pub fn grow_kept(
     jump: &mut [u32],
     lower: &mut [u32],
 )
-    requires { ⌜ Bare (now ends) (now lower) (now weights) (now parents) (now jump) ⌝ }
-    ensures { λ _. ⌜ GrowsKept (now (ends .entry)) (now (lower .entry)) (now (weights .entry)) (now (parents .exit)) (now (weights .exit)) (now (lower .exit)) ⌝ }
+    requires { ⌜ Growable (now ends) (now lower) (now parents) (now jump) × Light (now weights) (now lower) ⌝ }
+    ensures { λ _. ⌜ GrowsKept (now (ends .entry)) (now (lower .entry)) (now (weights .entry)) (now (parents .entry)) (now (parents .exit)) (now (weights .exit)) (now (lower .exit)) ⌝ }
 {
     table::fill(jump, Net::ABSENT);
     raise(true, ends, lower, weights, parents, jump);
@@ -137,10 +139,9 @@ pub fn grow_kept(
 // Grows the forest of the graph that is filed, and clears the work tables. Some edges may be old links, so no weight is counted: the
 // table for it is empty.
 pub fn regrow(parents: &mut [u32], ends: &mut [u32], jump: &mut [u32], lower: &mut [u32])
-    requires { ⌜ Regrowable (now ends) (now lower) (now parents) (now jump) ⌝ }
-    ensures { λ _. ⌜ Regrows (now (ends .entry)) (now (lower .entry)) (now (jump .entry)) (now (parents .exit)) (now (ends .exit)) (now (lower .exit)) (now (jump .exit)) ⌝ }
+    requires { ⌜ Growable (now ends) (now lower) (now parents) (now jump) ⌝ }
+    ensures { λ _. ⌜ Regrows (now (ends .entry)) (now (lower .entry)) (now (parents .entry)) (now (jump .entry)) (now (parents .exit)) (now (ends .exit)) (now (lower .exit)) (now (jump .exit)) ⌝ }
 {
     let mut none = [0u32; 0];
-    table::fill(parents, Net::ABSENT);
     grow(parents, &mut none, ends, jump, lower);
 }

@@ -112,7 +112,7 @@ pub fn insert(
     requires { ⌜ Extendable (now parents) (now edges) (now ends) (now jump) (now lower) ⌝ }
     ensures { λ _. ⌜ Extends (now (parents .entry)) (now (edges .entry)) (now (ends .entry)) (now (jump .entry)) (now (lower .entry)) (now (parents .exit)) (now (ends .exit)) (now (jump .exit)) (now (lower .exit)) ⌝ }
 {
-    let most = budget(parents.len(), edges.len() / 2);
+    let most = budget(parents.len(), edges.len() / refusal::STRIDE);
     let at = put_some(parents, edges, most);
     if edges.len() <= at + 1 {
         grow::clear(ends, jump, lower, 0);

@@ -7,7 +7,7 @@ use mathlib.Core.List.{List, [], _∷_}
 use Prim.Native.Nat.{ℕ, zero, suc, _%_}
 use lib.Dec.{eqb, leb, ltb}
 use lib.ListN.{length}
-use Rattle.game.specs.Edge.{Edge, _─_}
+use Rattle.game.specs.Edge.{Edge, _─_, stride}
 use Rattle.refusal.specs.Limits.{maxVertices}
 
 -- the number, given exactly if the test holds
@@ -36,7 +36,7 @@ wrongLength has needs = not (eqb has needs)
 
 -- 2 too: "a tie list of odd length"
 unfoldable pub odd : List ℕ → Bool
-odd xs = not (eqb (length xs % 2) 0)
+odd xs = not (eqb (length xs % stride) 0)
 
 -- 4: "a tie names n or more"; 5: "both ends of a tie are one mark"; "4 before 5"
 unfoldable pub fault : ℕ → Edge → ℕ

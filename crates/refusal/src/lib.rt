@@ -13,6 +13,9 @@ ghost use Rattle.refusal.specs.Steps.{isFaulty, someFault};
 // The largest number of vertices of a net.
 pub const MAX_VERTICES: usize = 1_000_000;
 
+// The numbers to an edge in a flat list.
+pub const STRIDE: usize = 2;
+
 // The largest number of edges in a list that a call takes whole.
 pub const MAX_EDGES: usize = 16_000_000;
 

@@ -68,7 +68,7 @@ fn relabel_refusal(order: &[u32], edges: &[u32], out: usize, inverse: usize) -> 
     if bad_count(n) {
         return 1;
     }
-    if edges.len() % 2 != 0 {
+    if edges.len() % refusal::STRIDE != 0 {
         return 2;
     }
     if out != edges.len() {

@@ -181,7 +181,7 @@ pub fn report(
         (workOf (now (ends .entry)) (now (jump .entry)) (now (lower .entry)))) ⌝ }
 {
     let n = parents.len();
-    let m = edges.len() / 2;
+    let m = edges.len() / refusal::STRIDE;
     let wrong = partition::wrong_tables(
         n,
         table::wide(blocks),
@@ -201,7 +201,7 @@ pub fn report(
             jump.len(),
             lower.len(),
         )
-        | (edges.len() % 2 != 0);
+        | (edges.len() % refusal::STRIDE != 0);
     let code = early_refusal(parents, weights, limit, blocks, edges, wrong);
     if code != 0 {
         return ReportAnswer::Refused(code);

@@ -31,7 +31,7 @@ fn grow(order: &[u32], edges: &[u32], ranked: &mut [u32], parents: &mut [u32], w
     ensures { λ _. ⌜ Grown (now (order .entry)) (now (edges .entry)) (now (ranked .exit)) (net (now (parents .exit)) (now (weights .exit))) ⌝ }
 {
     let n = order.len();
-    let both = n + edges.len() / 2;
+    let both = n + edges.len() / refusal::STRIDE;
     let mut inverse = [0u32; VERTICES];
     let mut ends = [0u32; VERTICES];
     let mut jump = [0u32; VERTICES];
@@ -63,7 +63,7 @@ fn report_on(
     ensures { λ r. ⌜ Put (now (text .entry)) 0 (netText (now (order .entry)) (edgesOf (now (ranked .entry))) limit blocks) (now (text .exit)) r ⌝ }
 {
     let n = order.len();
-    let m = ranked.len() / 2;
+    let m = ranked.len() / refusal::STRIDE;
     let both = n + m;
     let k = wide(blocks);
     let mut carried = [0u32; VERTICES];

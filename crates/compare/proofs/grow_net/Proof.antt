@@ -4,7 +4,7 @@ use native.Mathlib.Omega.{arith}
 use borrow.Author.Needs.{needs}
 use Rattle.game.specs.Edge.{edges as edgesOf}
 use Rattle.refusal.specs.Refusal.{firstFault}
-use Rattle.compare.proofs.Compared.{net-bare, net-grown}
+use Rattle.compare.proofs.Compared.{net-growable, net-grown}
 use Rattle.compare.proofs.grow_net.Statement.{statement}
 use Rattle.compare.proofs.grow_net.Tie as tie
 
@@ -20,7 +20,7 @@ file-list-requires c κs =
     (ap (λ (n : ℕ). firstFault n (edgesOf (c .before .before .before .before .before .before .before .before .before .before .before .before .before .before .before .before .args .edges .now))) (g .ends) ∙ g .faultless, (omega (arith, g .lower), omega (arith, g .lower, g .vertices, g .few)))
 
 grow-kept-requires : tie.Need-grow-kept-requires
-grow-kept-requires c κs = net-bare (c .before .before .before .before .before .before .before .before .before .before .before .before .before .before .before .before .before .before .before .before .before .before .before .before .before .before .pre) (c .before .before .before .before .before .before .before .before .before .before .before .before .before .before .before .before .before .before .fill .ensures) (c .before .before .before .before .before .before .before .before .before .before .before .before .before .before .fill2 .ensures) (c .before .before .before .before .before .before .before .before .before .file-list .ensures) (c .before .before .before .before .before .before .before .before .before .file-list .kept .1 .1 .0)
+grow-kept-requires c κs = net-growable (c .before .before .before .before .before .before .before .before .before .before .before .before .before .before .before .before .before .before .before .before .before .before .before .before .before .before .pre) (c .before .before .before .before .before .before .before .before .before .before .before .before .before .before .before .before .before .before .fill .ensures) (c .before .before .before .before .before .before .before .before .before .before .before .before .before .before .fill2 .ensures) (c .before .before .before .before .before .before .before .before .before .file-list .ensures) (c .before .before .before .before .before .before .before .before .before .file-list .kept .1 .1 .0)
 
 same-length : tie.Need-same-length
 same-length c = search needs

@@ -5,6 +5,7 @@ use Rattle.game.specs.Edge.{edges as edgesOf}
 use Rattle.game.specs.Game.{absent}
 use Rattle.refusal.specs.Refusal.{firstFault}
 use Rattle.bucket.proofs.Reading.{filed-consecutive}
+use Rattle.growth.proofs.NewParents.{links-blank}
 use Rattle.growth.proofs.Regrown.{grown-filed, first-links, light-list}
 use Rattle.growth.proofs.Rooms.{same-room}
 use native.Mathlib.Omega.{arith}
@@ -26,13 +27,14 @@ file-list-requires c κs =
 grow-requires : tie.Need-grow-requires
 grow-requires c κs =
     let e = c .before .before .before .before .before .before .before .before .before .before .before .before .before .before .before .before .before .before .before .before .before .before .before .pre .0 in
-    let f = c .before .before .before .before .before .before .before .before .before .file-list .ensures in
-    record {
-      blank = c .before .before .before .before .before .before .before .before .before .before .before .before .before .is-blank .ensures (c .before .before .before .before .before .before .before .before .before .before .before .before .if2 .taken) ∙ ap (λ (n : ℕ). replicate n absent) (sym (f .long ∙ e .long));
-      long-jump = e .long-jump ∙ sym (f .long ∙ e .long);
-      buckets = filed-consecutive f (omega (arith, e .long, e .table .few));
-      light = record { light = λ v h. omega (arith, c .before .before .before .before .before .before .before .before .before .before .before .before .before .before .before .before .before .before .before .before .before .before .before .pre .1 .light .light v h, c .before .before .before .before .before .before .before .before .before .file-list .kept .1 .1 .0) };
-    }
+    let f = c .before .before .before .before .before .before .before .before .before .file-list .ensures in (
+      record {
+        long = sym (f .long ∙ e .long);
+        long-jump = e .long-jump ∙ sym (f .long ∙ e .long);
+        buckets = filed-consecutive f (omega (arith, e .long, e .table .few));
+      },
+      record { light = λ v h. omega (arith, c .before .before .before .before .before .before .before .before .before .before .before .before .before .before .before .before .before .before .before .before .before .before .before .pre .1 .light .light v h, c .before .before .before .before .before .before .before .before .before .file-list .kept .1 .1 .0) },
+    )
 
 same-length : tie.Need-same-length
 same-length c = search needs
@@ -52,9 +54,10 @@ same-length-5 c = search needs
 returns : tie.Need-returns
 returns c =
     let e = c .before .before .before .before .before .before .before .before .before .before .before .before .before .before .before .before .before .before .before .before .before .before .before .before .before .before .before .before .before .before .before .before .before .before .pre .0 in
-    let g = grown-filed (c .before .before .before .before .before .before .before .before .before .before .before .before .before .before .before .before .before .before .before .before .file-list .ensures) (c .before .before .before .before .before .before .before .before .before .before .grow .ensures .grown) in (
+    let blank = c .before .before .before .before .before .before .before .before .before .before .before .before .before .before .before .before .before .before .before .before .before .before .before .before .is-blank .ensures (c .before .before .before .before .before .before .before .before .before .before .before .before .before .before .before .before .before .before .before .before .before .before .before .if2 .taken) in
+    let g = grown-filed (c .before .before .before .before .before .before .before .before .before .before .before .before .before .before .before .before .before .before .before .before .file-list .ensures) (links-blank _ blank) (c .before .before .before .before .before .before .before .before .before .before .grow .ensures .grown) in (
       record {
-        grown = g .0 ∙ first-links _ (c .before .before .before .before .before .before .before .before .before .before .before .before .before .before .before .before .before .before .before .before .before .before .before .before .is-blank .ensures (c .before .before .before .before .before .before .before .before .before .before .before .before .before .before .before .before .before .before .before .before .before .before .before .if2 .taken)) (e .long);
+        grown = g .0 ∙ first-links _ blank (e .long);
         clear = c .before .before .before .before .before .before .before .before .before .before .grow .ensures .clear ∙ same-room _ _ _ _ _ _ (c .before .before .before .before .before .before .before .before .before .before .before .before .before .before .before .before .before .before .before .before .file-list .kept .1 .0) refl (c .before .before .before .before .before .before .before .before .before .before .before .before .before .before .before .before .before .before .before .before .file-list .kept .1 .1 .0);
       },
       g .1,

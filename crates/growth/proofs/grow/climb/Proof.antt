@@ -1,11 +1,14 @@
 use native.Mathlib.Omega.{arith}
 use mathlib.Core.Path.{_≡_, refl}
+use mathlib.Core.Logic.{_≢_}
 use Prim.Native.Nat.{ℕ, _-_, _<_}
 use mathlib.Core.List.{List}
 use lib.ListN.{length, length-set}
 use Rattle.game.specs.Edge.{Edge}
 use Rattle.game.proofs.Conn.{Conn}
-use Rattle.growth.specs.Growth.{Upward, Standing, Climbing}
+use Rattle.game.specs.Game.{absent}
+use Rattle.growth.specs.Growth.{Upward, Standing, Climbing, newParents, Untouched}
+use Rattle.growth.proofs.NewParents.{untouched-none, untouched-pass, untouched-link, untouched-on}
 use Rattle.growth.proofs.Climb.{climb-start, climb-jump, climb-root, climb-done, upward-set, upward-next}
 use borrow.Author.Needs.{needs}
 use Rattle.growth.proofs.grow.climb.Statement.{statement}
@@ -15,8 +18,10 @@ use Rattle.growth.proofs.grow.climb.Tie as tie
 record Turn (u y : ℕ) (was jumps p jump : List ℕ) (w : ℕ) : Type 0 where
   same : length p ≡ length was
   top : y < length was
+  real : y ≢ absent
   upward : Upward (length was) jump
-  climbing : (E : List Edge) → Standing (length was) E y 0 was jumps → u < y → Conn E y u y → Climbing (length was) E y u w was p jump
+  untouched : Untouched was jumps p jump
+  climbing : (E : List Edge) → Standing (length was) E y 0 (newParents was jumps) jumps → u < y → Conn E y u y → Climbing (length was) E y u w (newParents was jumps) (newParents p jump) jump
 
 abbrev Inv-loop : tie.InvT-loop
 Inv-loop u y parents₀ jump₀ w₀ parents jump w = Turn u y parents₀ jump₀ parents jump w
@@ -28,7 +33,9 @@ loop-holds : tie.Need-loop-holds Inv-loop μ-loop
 loop-holds c = record {
   same = refl;
   top = c .pre .0;
-  upward = c .pre .1;
+  real = omega (arith, c .pre .0, c .pre .1);
+  upward = c .pre .2;
+  untouched = untouched-none _ _;
   climbing = λ E s l e. climb-start s (c .pre .0) l e;
 }
 
@@ -57,12 +64,13 @@ same-length : tie.Need-same-length Inv-loop μ-loop
 same-length c = search needs
 
 same-length-2 : tie.Need-same-length-2 Inv-loop μ-loop
-same-length-2 c = simp length-set (omega (arith, c .before .before .before .before .pre .1 .long))
+same-length-2 c = simp length-set (omega (arith, c .before .before .before .before .pre .2 .long))
 
 returns : tie.Need-returns Inv-loop μ-loop
 returns c = record {
   upward = upward-set _ _ (c .before .before .loop-test .taken) (c .before .before .before .loop .inv .upward);
-  climbed = λ E s l e. climb-root (c .before .before .before .loop .inv .climbing E s l e) (c .before .before .loop-test .taken) (c .if1 .taken);
+  untouched = untouched-on (c .before .before .before .loop .inv .untouched) (untouched-link _ _ (omega (arith, c .before .before .loop-test .taken, c .before .before .before .loop .inv .top, c .before .before .before .loop .inv .upward .long)) (c .before .before .before .loop .inv .real));
+  climbed = λ E s l e. climb-root _ (c .before .before .before .loop .inv .climbing E s l e) (c .before .before .loop-test .taken) (c .if1 .taken);
 }
 
 loop-less : tie.Need-loop-less Inv-loop μ-loop
@@ -73,8 +81,10 @@ loop-again : tie.Need-loop-again Inv-loop μ-loop
 loop-again c = record {
   same = c .before .before .before .loop .inv .same;
   top = c .before .before .before .loop .inv .top;
+  real = c .before .before .before .loop .inv .real;
+  untouched = untouched-on (c .before .before .before .loop .inv .untouched) (untouched-pass _ _ (omega (arith, c .before .before .loop-test .taken, c .before .before .before .loop .inv .top, c .before .before .before .loop .inv .upward .long)) (c .before .before .before .loop .inv .real));
   upward = upward-set _ _ (c .before .before .loop-test .taken) (c .before .before .before .loop .inv .upward);
-  climbing = λ E s l e. climb-jump (c .before .before .before .loop .inv .climbing E s l e) (c .before .before .loop-test .taken) (c .if1 .left);
+  climbing = λ E s l e. climb-jump _ (c .before .before .before .loop .inv .climbing E s l e) (c .before .before .loop-test .taken) (c .if1 .left);
 }
 
 same-length-3 : tie.Need-same-length-3 Inv-loop μ-loop
@@ -86,6 +96,7 @@ same-length-4 c = search needs
 returns-2 : tie.Need-returns-2 Inv-loop μ-loop
 returns-2 c = record {
   upward = c .before .loop .inv .upward;
+  untouched = c .before .loop .inv .untouched;
   climbed = λ E s l e. climb-done (c .before .loop .inv .climbing E s l e) (c .loop-test .left);
 }
 

@@ -4,7 +4,8 @@ use mathlib.Core.Path.{refl, sym, subst, _∙_, _≡_}
 use mathlib.Core.List.{List}
 use Rattle.game.specs.Edge.{Edge}
 use mathlib.Core.Bool.{Bool}
-use Rattle.growth.specs.Growth.{Upward, Standing, Offers, Gathered, Weighs, ReadUpTo}
+use Rattle.growth.specs.Growth.{Upward, Standing, Offers, Gathered, Weighs, ReadUpTo, newParents, Untouched}
+use Rattle.growth.proofs.NewParents.{untouched-none, untouched-on}
 use Rattle.growth.proofs.Raise.{gather-start, gather-climb, gather-end}
 use Rattle.growth.proofs.Weigh.{weighs-none, weighs-room, weighs-next, read-start, read-ahead, read-turn, read-end}
 use native.Mathlib.Omega.{arith}
@@ -19,7 +20,8 @@ record Turn (y : ℕ) (keep : Bool) (was weights₀ before jumps bucket weights 
   upward : Upward (length before) jump
   reading : ReadUpTo keep was i bucket
   weighed : Weighs (take i was) weights₀ weights
-  gathered : (E : List Edge) → Standing (length before) E y 0 before jumps → Offers E y was → Gathered (length before) E y i was before p jump
+  untouched : Untouched before jumps p jump
+  gathered : (E : List Edge) → Standing (length before) E y 0 (newParents before jumps) jumps → Offers E y was → Gathered (length before) E y i was (newParents before jumps) (newParents p jump) jump
 
 abbrev Inv-loop : tie.InvT-loop
 Inv-loop y keep bucket₀ weights₀ parents₀ jump₀ i₀ bucket weights parents jump i = Turn y keep bucket₀ weights₀ parents₀ jump₀ bucket weights parents jump i
@@ -28,7 +30,7 @@ abbrev μ-loop : tie.MeasureT-loop
 μ-loop y keep bucket₀ weights₀ parents₀ jump₀ i₀ bucket weights parents jump i = length bucket₀ - i
 
 loop-holds : tie.Need-loop-holds Inv-loop μ-loop
-loop-holds c = record { same = refl; upward = c .before .before .before .before .pre .1; reading = read-start _ _; weighed = weighs-none _; gathered = λ E s o. gather-start s }
+loop-holds c = record { same = refl; upward = c .before .before .before .before .pre .2; untouched = untouched-none _ _; reading = read-start _ _; weighed = weighs-none _; gathered = λ E s o. gather-start s }
 
 mul-u : tie.Need-mul-u Inv-loop μ-loop
 mul-u c = search needs
@@ -48,12 +50,12 @@ slice-write-bucket c = search needs
 weigh-requires : tie.Need-weigh-requires Inv-loop μ-loop
 weigh-requires c κs =
     let t = c .before .before .before .before .loop .inv in
-    λ v h. omega (arith, weighs-room (t .weighed) v (omega (arith, t .weighed .long)), c .before .before .before .before .before .before .before .before .before .pre .2 .light v (omega (arith, t .weighed .long)), c .before .before .before .loop-test .taken, t .reading .long, length-take (c .before .before .before .before .loop .i) (c .before .before .before .before .before .before .before .before .before .args .bucket .now))
+    λ v h. omega (arith, weighs-room (t .weighed) v (omega (arith, t .weighed .long)), c .before .before .before .before .before .before .before .before .before .pre .3 .light v (omega (arith, t .weighed .long)), c .before .before .before .loop-test .taken, t .reading .long, length-take (c .before .before .before .before .loop .i) (c .before .before .before .before .before .before .before .before .before .args .bucket .now))
 
 climb-requires : tie.Need-climb-requires Inv-loop μ-loop
 climb-requires c κs =
     let t = c .before .before .before .before .before .before .before .before .before .loop .inv in
-    (omega (arith, t .same), subst (λ (m : ℕ). Upward m (c .before .before .before .before .before .before .before .before .before .loop .jump)) (sym (t .same)) (t .upward))
+    (omega (arith, t .same), omega (arith, t .same), subst (λ (m : ℕ). Upward m (c .before .before .before .before .before .before .before .before .before .loop .jump)) (sym (t .same)) (t .upward))
 
 add-i : tie.Need-add-i Inv-loop μ-loop
 add-i c = search needs
@@ -73,6 +75,7 @@ loop-again c =
       upward = subst (λ (m : ℕ). Upward m (c .before .before .before .before .climb .last .1 .1 .1 .0)) (t .same) (k .upward);
       reading = read-turn (t .reading) here u (c .before .before .before .before .before .before .before .before .before .before .before .left .ensures);
       weighed = weighs-next _ _ (t .weighed) inside u (c .before .before .before .before .before .before .before .before .before .weigh .ensures);
+      untouched = untouched-on (t .untouched) (k .untouched);
       gathered = λ E s o. gather-climb (t .same) u k (o .offer _ inside) (t .gathered E s o);
     }
 
@@ -94,6 +97,7 @@ returns c =
     let done : c .before .loop .i ≡ length (c .before .before .before .before .before .before .args .bucket .now) = omega (arith, c .loop-test .left, t .reading .long, t .reading .inside) in
     record {
       upward = t .upward;
+      untouched = t .untouched;
       leaves = read-end (t .reading) (c .loop-test .left);
       weighed = rw (done, take-length) at (t .weighed);
       gathered = λ E s o. gather-end (omega (arith, done)) (t .gathered E s o);

@@ -2,6 +2,7 @@ use mathlib.Core.Path.{refl, ap, _∙_}
 use Prim.Native.Nat.{ℕ}
 use lib.ListN.{replicate}
 use Rattle.game.specs.Game.{absent}
+use Rattle.growth.proofs.NewParents.{new-whole}
 use Rattle.growth.proofs.Rooms.{same-room}
 use Rattle.growth.proofs.Weigh.{read-cleared, weighs-graph}
 use native.Mathlib.Omega.{arith}
@@ -13,12 +14,14 @@ fill-requires : tie.Need-fill-requires
 fill-requires c κs = search needs
 
 raise-requires : tie.Need-raise-requires
-raise-requires c κs = record {
-  blank = c .before .before .before .before .before .before .before .before .before .before .before .before .before .before .pre .blank;
-  blank-jump = c .before .before .before .before .before .before .before .fill .ensures ∙ ap (λ (n : ℕ). replicate n absent) (c .before .before .before .before .before .before .before .before .before .before .before .before .before .before .pre .long-jump);
-  buckets = c .before .before .before .before .before .before .before .before .before .before .before .before .before .before .pre .buckets;
-  light = c .before .before .before .before .before .before .before .before .before .before .before .before .before .before .pre .light;
-}
+raise-requires c κs =
+    let g = c .before .before .before .before .before .before .before .before .before .before .before .before .before .before .pre .0 in
+    record {
+      long = g .long;
+      blank-jump = c .before .before .before .before .before .before .before .fill .ensures ∙ ap (λ (n : ℕ). replicate n absent) (g .long-jump);
+      buckets = g .buckets;
+      light = c .before .before .before .before .before .before .before .before .before .before .before .before .before .before .pre .1;
+    }
 
 clear-requires : tie.Need-clear-requires
 clear-requires c κs =
@@ -43,8 +46,9 @@ same-length-5 c = search needs
 returns : tie.Need-returns
 returns c =
     let r = c .before .before .before .before .before .before .before .before .before .before .before .before .before .before .before .before .before .before .raise .ensures in
+    let g = c .before .before .before .before .before .before .before .before .before .before .before .before .before .before .before .before .before .before .before .before .before .before .before .before .before .before .before .before .before .before .before .before .before .pre .0 in
     record {
-      grown = record { parents = r .raised; weighed = λ E f. weighs-graph f (r .last) (r .weighed) };
+      grown = record { parents = λ E k f i. new-whole (omega (arith, g .buckets .few)) k (g .long) (c .before .before .before .before .before .before .before .before .before .before .before .before .before .before .before .before .before .before .raise .kept .1 .1 .1 .1 .0 ∙ g .long) i (r .untouched) (r .raised E k f); weighed = λ E f. weighs-graph f (r .last) (r .weighed) };
       clear = c .before .before .before .before .before .before .clear .ensures ∙ same-room _ _ _ _ _ _ refl (c .before .before .before .before .before .before .before .before .before .before .before .before .before .before .before .before .before .before .raise .kept .1 .1 .1 .1 .1 .0 ∙ c .before .before .before .before .before .before .before .before .before .before .before .before .before .before .before .before .before .before .before .before .before .before .before .before .before .before .fill .kept .0) (c .before .before .before .before .before .before .before .before .before .before .before .before .before .before .before .before .before .before .raise .kept .1 .1 .0);
     }
 

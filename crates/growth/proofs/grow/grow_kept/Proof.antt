@@ -2,6 +2,8 @@ use mathlib.Core.Path.{ap, _∙_}
 use Prim.Native.Nat.{ℕ}
 use lib.ListN.{replicate}
 use Rattle.game.specs.Game.{absent}
+use native.Mathlib.Omega.{arith}
+use Rattle.growth.proofs.NewParents.{new-whole}
 use Rattle.growth.proofs.Weigh.{read-kept, weighs-graph}
 use borrow.Author.Needs.{needs}
 use Rattle.growth.proofs.grow.grow_kept.Statement.{statement}
@@ -12,12 +14,12 @@ fill-requires c κs = search needs
 
 raise-requires : tie.Need-raise-requires
 raise-requires c κs =
-    let b = c .before .before .before .before .before .before .before .before .before .before .before .before .before .pre in
+    let g = c .before .before .before .before .before .before .before .before .before .before .before .before .before .pre .0 in
     record {
-      blank = b .blank;
-      blank-jump = c .before .before .before .before .before .before .fill .ensures ∙ ap (λ (n : ℕ). replicate n absent) (b .long-jump);
-      buckets = b .buckets;
-      light = b .light;
+      long = g .long;
+      blank-jump = c .before .before .before .before .before .before .fill .ensures ∙ ap (λ (n : ℕ). replicate n absent) (g .long-jump);
+      buckets = g .buckets;
+      light = c .before .before .before .before .before .before .before .before .before .before .before .before .before .pre .1;
     }
 
 same-length : tie.Need-same-length
@@ -34,8 +36,15 @@ same-length-4 c = search needs
 
 returns : tie.Need-returns
 returns c =
+    let g = c .before .before .before .before .before .before .before .before .before .before .before .before .before .before .before .before .before .before .before .before .before .before .pre .0 in
     let r = c .before .before .before .before .before .before .before .before .raise .ensures in
-    record { grown = record { parents = r .raised; weighed = λ E f. weighs-graph f (r .last) (r .weighed) }; kept = read-kept (r .leaves) }
+    record {
+      grown = record {
+        parents = λ E k f i. new-whole (omega (arith, g .buckets .few)) k (g .long) (c .before .before .before .before .before .before .before .before .raise .kept .1 .1 .1 .1 .0 ∙ g .long) i (r .untouched) (r .raised E k f);
+        weighed = λ E f. weighs-graph f (r .last) (r .weighed);
+      };
+      kept = read-kept (r .leaves);
+    }
 
 pub grow-kept-spec : {M : Type 1} → statement M
 grow-kept-spec =

@@ -7,7 +7,8 @@ use Rattle.game.specs.Graph.{Proper}
 use mathlib.Core.Bool.{Bool}
 use Rattle.bucket.specs.Filed.{begin, Filed}
 use Rattle.bucket.proofs.Reading.{begin-next, filed-part}
-use Rattle.growth.specs.Growth.{Upward, Weighs, Raised, ReadUpTo}
+use Rattle.growth.specs.Growth.{Upward, Weighs, Raised, ReadUpTo, newParents, Untouched}
+use Rattle.growth.proofs.NewParents.{new-blank, untouched-none, untouched-on}
 use Rattle.growth.proofs.Climb.{upward-blank}
 use Rattle.growth.proofs.Raise.{raise-start, raise-gather, raise-end}
 use Rattle.growth.proofs.Weigh.{weighs-none, weighs-room, weighs-stretch, part-length, read-start, read-part, read-on}
@@ -18,17 +19,18 @@ use Rattle.growth.proofs.grow.raise.Statement.{statement}
 use Rattle.growth.proofs.grow.raise.Tie as tie
 
 -- the vertices below y are raised, for whatever graph is filed
-record Turn (keep : Bool) (ends was weights₀ lower weights p jump : List ℕ) (at y : ℕ) : Type 0 where
+record Turn (keep : Bool) (ends was weights₀ before jumps lower weights p jump : List ℕ) (at y : ℕ) : Type 0 where
   same : length p ≡ length ends
   upward : Upward (length ends) jump
   within : y ≤ length ends
   start : at ≡ begin ends y
   reading : ReadUpTo keep was at lower
   weighed : Weighs (take at was) weights₀ weights
-  raised : (E : List Edge) → Proper (length ends) E → Filed (length ends) E ends was → Raised (length ends) E y p jump
+  untouched : Untouched before jumps p jump
+  raised : (E : List Edge) → Proper (length ends) E → Filed (length ends) E ends was → Raised (length ends) E y (newParents p jump) jump
 
 abbrev Inv-loop : tie.InvT-loop
-Inv-loop keep ends lower₀ weights₀ parents₀ jump₀ at₀ y₀ lower weights parents jump at y = Turn keep ends lower₀ weights₀ lower weights parents jump at y
+Inv-loop keep ends lower₀ weights₀ parents₀ jump₀ at₀ y₀ lower weights parents jump at y = Turn keep ends lower₀ weights₀ parents₀ jump₀ lower weights parents jump at y
 
 abbrev μ-loop : tie.MeasureT-loop
 μ-loop keep ends lower₀ weights₀ parents₀ jump₀ at₀ y₀ lower weights parents jump at y = length ends - y
@@ -38,13 +40,14 @@ unfolding begin
 loop-holds c =
     let b = c .before .before .before .before .before .pre in
     record {
-      same = ap length (b .blank) ∙ length-replicate _ absent;
+      same = b .long;
+      untouched = untouched-none _ _;
       upward = subst (Upward _) (sym (b .blank-jump)) (upward-blank _);
       within = omega arith;
       start = refl;
       reading = read-start _ _;
       weighed = weighs-none _;
-      raised = λ E k f. subst₂ (Raised _ E 0) (sym (b .blank)) (sym (b .blank-jump)) (raise-start _ E (omega (arith, b .buckets .few)));
+      raised = λ E k f. subst₂ (Raised _ E 0) (sym (new-blank _ (b .long) (b .blank-jump))) (sym (b .blank-jump)) (raise-start _ E (omega (arith, b .buckets .few)));
     }
 
 mul-wide : tie.Need-mul-wide Inv-loop μ-loop
@@ -97,6 +100,7 @@ gather-requires c κs =
     let order : c .before .before .before .before .before .before .before .loop .at ≤ c .before .before .before .before .wide .result = omega (arith, t .start, b .rising _ here, c .before .before .before .before .wide .ensures) in
     let room : c .before .before .before .before .wide .result ≤ length (c .before .before .before .before .before .before .before .loop .lower) = omega (arith, t .reading .long, b .room _ here, c .before .before .before .before .wide .ensures) in (
       omega (arith, t .same, here),
+      omega (arith, t .same, b .few),
       subst (λ (m : ℕ). Upward m (c .before .before .before .before .before .before .before .loop .jump)) (sym (t .same)) (t .upward),
       record {
         light = λ v h.
@@ -125,6 +129,7 @@ loop-again c =
       start = c .before .before .before .before .before .before .before .before .before .before .before .before .before .wide .ensures ∙ sym (begin-next _ _);
       reading = read-on (t .reading) _ order room (g .leaves);
       weighed = weighs-stretch _ _ _ order (t .weighed) (rw (read-part (t .reading) (c .before .before .before .before .before .before .before .before .before .before .before .before .before .wide .result - c .before .before .before .before .before .before .before .before .before .before .before .before .before .before .before .before .loop .at)) at (g .weighed));
+      untouched = untouched-on (t .untouched) (g .untouched);
       raised = λ E k f. raise-gather (t .same) (read-part (t .reading) (c .before .before .before .before .before .before .before .before .before .before .before .before .before .wide .result - c .before .before .before .before .before .before .before .before .before .before .before .before .before .before .before .before .loop .at) ∙ filed-part f _ here (t .start) (c .before .before .before .before .before .before .before .before .before .before .before .before .before .wide .ensures)) g k (t .raised E k f);
     }
 
@@ -135,7 +140,7 @@ same-length-2 : tie.Need-same-length-2 Inv-loop μ-loop
 same-length-2 c = search needs
 
 same-length-3 : tie.Need-same-length-3 Inv-loop μ-loop
-same-length-3 c = c .before .loop .inv .same ∙ sym (ap length (c .before .before .before .before .before .before .before .pre .blank) ∙ length-replicate _ absent)
+same-length-3 c = c .before .loop .inv .same ∙ sym (c .before .before .before .before .before .before .before .pre .long)
 
 same-length-4 : tie.Need-same-length-4 Inv-loop μ-loop
 same-length-4 c = c .before .loop .inv .upward .long ∙ sym (ap length (c .before .before .before .before .before .before .before .pre .blank-jump) ∙ length-replicate _ absent)
@@ -145,6 +150,7 @@ returns c =
     let t = c .before .loop .inv in
     let done : c .before .loop .y ≡ length (c .before .before .before .before .before .before .before .args .ends .now) = omega (arith, c .loop-test .left, t .within) in
     record {
+      untouched = t .untouched;
       raised = λ E k f. raise-end k (c .loop-test .left) (t .raised E k f);
       last = t .start ∙ ap (begin _) done;
       weighed = t .weighed;

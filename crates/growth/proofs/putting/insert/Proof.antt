@@ -1,6 +1,6 @@
 use native.Mathlib.Omega.{arith}
 use mathlib.Core.Path.{refl, _∙_}
-use Rattle.growth.proofs.Regrown.{filed-regrowable}
+use Rattle.growth.proofs.Regrown.{filed-growable}
 use Rattle.growth.proofs.Put.{put-all, rest-part, rest-faultless, rest-room, rest-grown}
 use Rattle.growth.proofs.Rooms.{same-room}
 use borrow.Author.Needs.{needs}
@@ -57,7 +57,7 @@ file-edges-requires c κs =
 regrow-requires : tie.Need-regrow-requires
 regrow-requires c κs =
     let u = c .before .before .before .before .before .before .before .before .before .before .before .before .before .before .before .before .put-some .ensures in
-    filed-regrowable (c .before .before .before .before .before .before .before .before .file-edges .ensures) (omega (arith, u .same, c .before .before .before .before .before .before .before .before .before .before .before .before .before .before .before .before .before .before .before .before .before .before .before .before .pre .table .few)) refl (omega (arith, u .same, c .before .before .before .before .before .before .before .before .before .before .before .before .before .before .before .before .before .before .before .before .before .before .before .before .pre .long-jump))
+    filed-growable (c .before .before .before .before .before .before .before .before .file-edges .ensures) (omega (arith, u .same, c .before .before .before .before .before .before .before .before .before .before .before .before .before .before .before .before .before .before .before .before .before .before .before .before .pre .table .few)) refl (omega (arith, u .same, c .before .before .before .before .before .before .before .before .before .before .before .before .before .before .before .before .before .before .before .before .before .before .before .before .pre .long-jump))
 
 same-length-5 : tie.Need-same-length-5
 same-length-5 c = search needs

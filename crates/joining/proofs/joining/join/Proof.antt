@@ -6,7 +6,7 @@ use Rattle.refusal.proofs.Ends.{ends-refused, ends-accepted}
 use Rattle.joining.specs.Join.{joinOutcome}
 use Rattle.joining.proofs.Accepted.{joinable}
 use Rattle.joining.proofs.Outcomes.{join-ends}
-use Rattle.growth.proofs.Regrown.{filed-regrowable}
+use Rattle.growth.proofs.Regrown.{filed-growable}
 use borrow.Author.Needs.{needs}
 use Rattle.joining.proofs.joining.join.Statement.{statement}
 use Rattle.joining.proofs.joining.join.Tie as tie
@@ -46,7 +46,7 @@ file-links-requires c κs =
 regrow-requires : tie.Need-regrow-requires
 regrow-requires c κs =
     let a = joinable _ _ (sym (c .before .before .before .before .before .before .before .before .before .before .before .before .before .before .before .before .before .join-refusal .ensures) ∙ c .before .before .before .before .before .before .before .before .before .before .before .before .before .before .before .before .if1 .left) in
-    filed-regrowable (c .before .before .before .before .before .before .before .before .file-links .ensures) (a .net .few) refl (a .work .jump)
+    filed-growable (c .before .before .before .before .before .before .before .before .file-links .ensures) (a .net .few) refl (a .work .jump)
 
 same-length-6 : tie.Need-same-length-6
 same-length-6 c = search needs
