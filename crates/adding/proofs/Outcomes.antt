@@ -14,7 +14,7 @@ use Rattle.bucket.specs.Ends.{tallied}
 use Rattle.bucket.proofs.Tallied.{tally-weights}
 use Rattle.growth.specs.Work.{growing, workOf, cleared}
 use Rattle.adding.specs.Add.{grown}
-use Rattle.growth.specs.Putting.{Extendable, Weighable, Extends}
+use Rattle.inserting.specs.Putting.{Extendable, Weighable, Extends}
 use Rattle.adding.proofs.Accepted.{Addable}
 
 module _ {p w e j l : List ℕ} {xs : List ℕ} (a : Addable (growing (net p w) (workOf e j l)) xs) where

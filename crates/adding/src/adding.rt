@@ -72,6 +72,6 @@ pub fn add(
     if code != 0 {
         return Answer::Refused(code);
     }
-    growth::extend(parents, weights, edges, ends, jump, lower);
+    inserting::extend(parents, weights, edges, ends, jump, lower);
     Answer::Accepted
 }

@@ -4,7 +4,5 @@ pub mod Weigh
 pub mod Raise
 pub mod Rooms
 pub mod Regrown
-pub mod Exchange
-pub mod Put
 pub mod Tests
 pub mod Whole

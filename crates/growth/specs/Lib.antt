@@ -1,4 +1,3 @@
 -- The work tables, and what growing a forest promises.
 pub mod Work
 pub mod Growth
-pub mod Putting

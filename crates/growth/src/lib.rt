@@ -1,11 +1,9 @@
-// Forests grown: by union-find over edges that are filed, or edge by edge by exchanges. The caller lends the room.
-mod extending;
-mod grow;
-mod putting;
+// Forests grown by union-find over edges that are filed. The caller lends the room.
+mod raising;
 mod work;
 
-pub use extending::extend;
-pub use grow::clear;
-pub use grow::grow_kept;
-pub use grow::regrow;
+pub use raising::clear;
+pub use raising::grow;
+pub use raising::grow_kept;
+pub use raising::regrow;
 pub use work::bad_work;

@@ -1,0 +1,124 @@
+use native.Mathlib.Omega.{arith}
+use mathlib.Core.Path.{_≡_, refl}
+use mathlib.Core.Logic.{_≢_}
+use Prim.Native.Nat.{ℕ, _-_, _<_}
+use mathlib.Core.List.{List}
+use lib.ListN.{length, length-set}
+use Rattle.game.specs.Edge.{Edge}
+use Rattle.game.proofs.Conn.{Conn}
+use Rattle.game.specs.Game.{absent}
+use Rattle.growth.specs.Growth.{Upward, Standing, Climbing, newParents, Untouched}
+use Rattle.growth.proofs.NewParents.{untouched-none, untouched-pass, untouched-link, untouched-on}
+use Rattle.growth.proofs.Climb.{climb-start, climb-jump, climb-root, climb-done, upward-set, upward-next}
+use borrow.Author.Needs.{needs}
+use Rattle.growth.proofs.raising.climb.Statement.{statement}
+use Rattle.growth.proofs.raising.climb.Tie as tie
+
+-- where the climb stands, for whatever graph the tables stand for
+record Turn (u y : ℕ) (was jumps p jump : List ℕ) (w : ℕ) : Type 0 where
+  same : length p ≡ length was
+  top : y < length was
+  real : y ≢ absent
+  upward : Upward (length was) jump
+  untouched : Untouched was jumps p jump
+  climbing : (E : List Edge) → Standing (length was) E y 0 (newParents was jumps) jumps → u < y → Conn E y u y → Climbing (length was) E y u w (newParents was jumps) (newParents p jump) jump
+
+abbrev Inv-loop : tie.InvT-loop
+Inv-loop u y parents₀ jump₀ w₀ parents jump w = Turn u y parents₀ jump₀ parents jump w
+
+abbrev μ-loop : tie.MeasureT-loop
+μ-loop u y parents₀ jump₀ w₀ parents jump w = y - w
+
+loop-holds : tie.Need-loop-holds Inv-loop μ-loop
+loop-holds c = record {
+  same = refl;
+  top = c .pre .0;
+  real = omega (arith, c .pre .0, c .pre .1);
+  upward = c .pre .2;
+  untouched = untouched-none _ _;
+  climbing = λ E s l e. climb-start s (c .pre .0) l e;
+}
+
+cast-at : tie.Need-cast-at Inv-loop μ-loop
+cast-at c = search needs
+
+mul-next : tie.Need-mul-next Inv-loop μ-loop
+mul-next c = search needs
+
+slice-read-next : tie.Need-slice-read-next Inv-loop μ-loop
+slice-read-next c = search needs
+
+mul-jump : tie.Need-mul-jump Inv-loop μ-loop
+mul-jump c = search needs
+
+slice-write-jump : tie.Need-slice-write-jump Inv-loop μ-loop
+slice-write-jump c = search needs
+
+mul-parents : tie.Need-mul-parents Inv-loop μ-loop
+mul-parents c = search needs
+
+slice-write-parents : tie.Need-slice-write-parents Inv-loop μ-loop
+slice-write-parents c = search needs
+
+same-length : tie.Need-same-length Inv-loop μ-loop
+same-length c = search needs
+
+same-length-2 : tie.Need-same-length-2 Inv-loop μ-loop
+same-length-2 c = simp length-set (omega (arith, c .before .before .before .before .pre .2 .long))
+
+returns : tie.Need-returns Inv-loop μ-loop
+returns c = record {
+  upward = upward-set _ _ (c .before .before .loop-test .taken) (c .before .before .before .loop .inv .upward);
+  untouched = untouched-on (c .before .before .before .loop .inv .untouched) (untouched-link _ _ (omega (arith, c .before .before .loop-test .taken, c .before .before .before .loop .inv .top, c .before .before .before .loop .inv .upward .long)) (c .before .before .before .loop .inv .real));
+  climbed = λ E s l e. climb-root _ (c .before .before .before .loop .inv .climbing E s l e) (c .before .before .loop-test .taken) (c .if1 .taken);
+}
+
+loop-less : tie.Need-loop-less Inv-loop μ-loop
+loop-less c =
+    omega (arith, c .before .before .loop-test .taken, upward-next (c .before .before .before .loop .w) (c .before .before .before .loop .inv .upward) (omega arith) (c .if1 .left))
+
+loop-again : tie.Need-loop-again Inv-loop μ-loop
+loop-again c = record {
+  same = c .before .before .before .loop .inv .same;
+  top = c .before .before .before .loop .inv .top;
+  real = c .before .before .before .loop .inv .real;
+  untouched = untouched-on (c .before .before .before .loop .inv .untouched) (untouched-pass _ _ (omega (arith, c .before .before .loop-test .taken, c .before .before .before .loop .inv .top, c .before .before .before .loop .inv .upward .long)) (c .before .before .before .loop .inv .real));
+  upward = upward-set _ _ (c .before .before .loop-test .taken) (c .before .before .before .loop .inv .upward);
+  climbing = λ E s l e. climb-jump _ (c .before .before .before .loop .inv .climbing E s l e) (c .before .before .loop-test .taken) (c .if1 .left);
+}
+
+same-length-3 : tie.Need-same-length-3 Inv-loop μ-loop
+same-length-3 c = search needs
+
+same-length-4 : tie.Need-same-length-4 Inv-loop μ-loop
+same-length-4 c = search needs
+
+returns-2 : tie.Need-returns-2 Inv-loop μ-loop
+returns-2 c = record {
+  upward = c .before .loop .inv .upward;
+  untouched = c .before .loop .inv .untouched;
+  climbed = λ E s l e. climb-done (c .before .loop .inv .climbing E s l e) (c .loop-test .left);
+}
+
+pub climb-spec : {M : Type 1} → statement M
+climb-spec =
+    tie.close
+    (tie.spec
+    Inv-loop
+    μ-loop
+    loop-holds
+    cast-at
+    mul-next
+    slice-read-next
+    mul-jump
+    slice-write-jump
+    mul-parents
+    slice-write-parents
+    same-length
+    same-length-2
+    returns
+    loop-less
+    loop-again
+    same-length-3
+    same-length-4
+    returns-2)

@@ -1,0 +1,59 @@
+use mathlib.Core.Path.{ap, _∙_}
+use Prim.Native.Nat.{ℕ}
+use lib.ListN.{replicate}
+use Rattle.game.specs.Game.{absent}
+use native.Mathlib.Omega.{arith}
+use Rattle.growth.proofs.NewParents.{new-whole}
+use Rattle.growth.proofs.Weigh.{read-kept, weighs-graph}
+use borrow.Author.Needs.{needs}
+use Rattle.growth.proofs.raising.grow_kept.Statement.{statement}
+use Rattle.growth.proofs.raising.grow_kept.Tie as tie
+
+fill-requires : tie.Need-fill-requires
+fill-requires c κs = search needs
+
+raise-requires : tie.Need-raise-requires
+raise-requires c κs =
+    let g = c .before .before .before .before .before .before .before .before .before .before .before .before .before .pre .0 in
+    record {
+      long = g .long;
+      blank-jump = c .before .before .before .before .before .before .fill .ensures ∙ ap (λ (n : ℕ). replicate n absent) (g .long-jump);
+      buckets = g .buckets;
+      light = c .before .before .before .before .before .before .before .before .before .before .before .before .before .pre .1;
+    }
+
+same-length : tie.Need-same-length
+same-length c = search needs
+
+same-length-2 : tie.Need-same-length-2
+same-length-2 c = search needs
+
+same-length-3 : tie.Need-same-length-3
+same-length-3 c = search needs
+
+same-length-4 : tie.Need-same-length-4
+same-length-4 c = search needs
+
+returns : tie.Need-returns
+returns c =
+    let g = c .before .before .before .before .before .before .before .before .before .before .before .before .before .before .before .before .before .before .before .before .before .before .pre .0 in
+    let r = c .before .before .before .before .before .before .before .before .raise .ensures in
+    record {
+      grown = record {
+        parents = λ E k f i. new-whole (omega (arith, g .buckets .few)) k (g .long) (c .before .before .before .before .before .before .before .before .raise .kept .1 .1 .1 .1 .0 ∙ g .long) i (r .untouched) (r .raised E k f);
+        weighed = λ E f. weighs-graph f (r .last) (r .weighed);
+      };
+      kept = read-kept (r .leaves);
+    }
+
+pub grow-kept-spec : {M : Type 1} → statement M
+grow-kept-spec =
+    tie.close
+    (tie.spec
+    fill-requires
+    raise-requires
+    same-length
+    same-length-2
+    same-length-3
+    same-length-4
+    returns)

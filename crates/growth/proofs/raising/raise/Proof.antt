@@ -1,0 +1,183 @@
+use mathlib.Core.Path.{refl, sym, ap, subst, subst₂, _∙_, _≡_}
+use mathlib.Core.List.{List}
+use lib.ListN.{take, length-replicate, length-take, length}
+use Rattle.game.specs.Edge.{Edge}
+use Rattle.game.specs.Game.{absent}
+use Rattle.game.specs.Graph.{Proper}
+use mathlib.Core.Bool.{Bool}
+use Rattle.bucket.specs.Filed.{begin, Filed}
+use Rattle.bucket.proofs.Reading.{begin-next, filed-part}
+use Rattle.growth.specs.Growth.{Upward, Weighs, Raised, ReadUpTo, newParents, Untouched}
+use Rattle.growth.proofs.NewParents.{new-blank, untouched-none, untouched-on}
+use Rattle.growth.proofs.Climb.{upward-blank}
+use Rattle.growth.proofs.Raise.{raise-start, raise-gather, raise-end}
+use Rattle.growth.proofs.Weigh.{weighs-none, weighs-room, weighs-stretch, part-length, read-start, read-part, read-on}
+use native.Mathlib.Omega.{arith}
+use Prim.Native.Nat.{ℕ, _-_, _<_, _≤_}
+use borrow.Author.Needs.{needs}
+use Rattle.growth.proofs.raising.raise.Statement.{statement}
+use Rattle.growth.proofs.raising.raise.Tie as tie
+
+-- the vertices below y are raised, for whatever graph is filed
+record Turn (keep : Bool) (ends was weights₀ before jumps lower weights p jump : List ℕ) (at y : ℕ) : Type 0 where
+  same : length p ≡ length ends
+  upward : Upward (length ends) jump
+  within : y ≤ length ends
+  start : at ≡ begin ends y
+  reading : ReadUpTo keep was at lower
+  weighed : Weighs (take at was) weights₀ weights
+  untouched : Untouched before jumps p jump
+  raised : (E : List Edge) → Proper (length ends) E → Filed (length ends) E ends was → Raised (length ends) E y (newParents p jump) jump
+
+abbrev Inv-loop : tie.InvT-loop
+Inv-loop keep ends lower₀ weights₀ parents₀ jump₀ at₀ y₀ lower weights parents jump at y = Turn keep ends lower₀ weights₀ parents₀ jump₀ lower weights parents jump at y
+
+abbrev μ-loop : tie.MeasureT-loop
+μ-loop keep ends lower₀ weights₀ parents₀ jump₀ at₀ y₀ lower weights parents jump at y = length ends - y
+
+loop-holds : tie.Need-loop-holds Inv-loop μ-loop
+unfolding begin
+loop-holds c =
+    let b = c .before .before .before .before .before .pre in
+    record {
+      same = b .long;
+      untouched = untouched-none _ _;
+      upward = subst (Upward _) (sym (b .blank-jump)) (upward-blank _);
+      within = omega arith;
+      start = refl;
+      reading = read-start _ _;
+      weighed = weighs-none _;
+      raised = λ E k f. subst₂ (Raised _ E 0) (sym (new-blank _ (b .long) (b .blank-jump))) (sym (b .blank-jump)) (raise-start _ E (omega (arith, b .buckets .few)));
+    }
+
+mul-wide : tie.Need-mul-wide Inv-loop μ-loop
+mul-wide c = search needs
+
+shared-slice-read-wide : tie.Need-shared-slice-read-wide Inv-loop μ-loop
+shared-slice-read-wide c = search needs
+
+wide-requires : tie.Need-wide-requires Inv-loop μ-loop
+wide-requires c κs = search needs
+
+cast-gather : tie.Need-cast-gather Inv-loop μ-loop
+cast-gather c = search needs
+
+mul-gather : tie.Need-mul-gather Inv-loop μ-loop
+mul-gather c = search needs
+
+sub-gather : tie.Need-sub-gather Inv-loop μ-loop
+sub-gather c =
+    let t = c .before .before .before .loop .inv in
+    let here : c .before .before .before .loop .y < length (c .before .before .before .before .before .before .before .before .before .args .ends .now) = c .before .before .loop-test .taken in
+    let b = c .before .before .before .before .before .before .before .before .before .pre .buckets in
+    let order : c .before .before .before .loop .at ≤ c .wide .result = omega (arith, t .start, b .rising _ here, c .wide .ensures) in
+    let room : c .wide .result ≤ length (c .before .before .before .loop .lower) = omega (arith, t .reading .long, b .room _ here, c .wide .ensures) in
+    omega (arith, order)
+
+part-gather-start : tie.Need-part-gather-start Inv-loop μ-loop
+part-gather-start c =
+    let t = c .before .before .before .loop .inv in
+    let here : c .before .before .before .loop .y < length (c .before .before .before .before .before .before .before .before .before .args .ends .now) = c .before .before .loop-test .taken in
+    let b = c .before .before .before .before .before .before .before .before .before .pre .buckets in
+    let order : c .before .before .before .loop .at ≤ c .wide .result = omega (arith, t .start, b .rising _ here, c .wide .ensures) in
+    let room : c .wide .result ≤ length (c .before .before .before .loop .lower) = omega (arith, t .reading .long, b .room _ here, c .wide .ensures) in
+    omega (arith, order)
+
+part-gather-end : tie.Need-part-gather-end Inv-loop μ-loop
+part-gather-end c =
+    let t = c .before .before .before .loop .inv in
+    let here : c .before .before .before .loop .y < length (c .before .before .before .before .before .before .before .before .before .args .ends .now) = c .before .before .loop-test .taken in
+    let b = c .before .before .before .before .before .before .before .before .before .pre .buckets in
+    let order : c .before .before .before .loop .at ≤ c .wide .result = omega (arith, t .start, b .rising _ here, c .wide .ensures) in
+    let room : c .wide .result ≤ length (c .before .before .before .loop .lower) = omega (arith, t .reading .long, b .room _ here, c .wide .ensures) in
+    omega (arith, room)
+
+gather-requires : tie.Need-gather-requires Inv-loop μ-loop
+gather-requires c κs =
+    let t = c .before .before .before .before .before .before .before .loop .inv in
+    let here : c .before .before .before .before .before .before .before .loop .y < length (c .before .before .before .before .before .before .before .before .before .before .before .before .before .args .ends .now) = c .before .before .before .before .before .before .loop-test .taken in
+    let b = c .before .before .before .before .before .before .before .before .before .before .before .before .before .pre .buckets in
+    let order : c .before .before .before .before .before .before .before .loop .at ≤ c .before .before .before .before .wide .result = omega (arith, t .start, b .rising _ here, c .before .before .before .before .wide .ensures) in
+    let room : c .before .before .before .before .wide .result ≤ length (c .before .before .before .before .before .before .before .loop .lower) = omega (arith, t .reading .long, b .room _ here, c .before .before .before .before .wide .ensures) in (
+      omega (arith, t .same, here),
+      omega (arith, t .same, b .few),
+      subst (λ (m : ℕ). Upward m (c .before .before .before .before .before .before .before .loop .jump)) (sym (t .same)) (t .upward),
+      record {
+        light = λ v h.
+            omega (arith, weighs-room (t .weighed) v (omega (arith, t .weighed .long)), length-take (c .before .before .before .before .before .before .before .loop .at) (c .before .before .before .before .before .before .before .before .before .before .before .before .before .args .lower .now), part-length (c .before .before .before .before .before .before .before .loop .at) (c .before .before .before .before .wide .result) (c .before .before .before .before .before .before .before .loop .lower) room, c .before .before .before .before .before .before .before .before .before .before .before .before .before .pre .light .light v (omega (arith, t .weighed .long)), t .reading .long);
+      },
+    )
+
+add-y : tie.Need-add-y Inv-loop μ-loop
+add-y c = search needs
+
+loop-less : tie.Need-loop-less Inv-loop μ-loop
+loop-less c = search needs
+
+loop-again : tie.Need-loop-again Inv-loop μ-loop
+loop-again c =
+    let t = c .before .before .before .before .before .before .before .before .before .before .before .before .before .before .before .before .loop .inv in
+    let here : c .before .before .before .before .before .before .before .before .before .before .before .before .before .before .before .before .loop .y < length (c .before .before .before .before .before .before .before .before .before .before .before .before .before .before .before .before .before .before .before .before .before .before .args .ends .now) = c .before .before .before .before .before .before .before .before .before .before .before .before .before .before .before .loop-test .taken in
+    let b = c .before .before .before .before .before .before .before .before .before .before .before .before .before .before .before .before .before .before .before .before .before .before .pre .buckets in
+    let order : c .before .before .before .before .before .before .before .before .before .before .before .before .before .before .before .before .loop .at ≤ c .before .before .before .before .before .before .before .before .before .before .before .before .before .wide .result = omega (arith, t .start, b .rising _ here, c .before .before .before .before .before .before .before .before .before .before .before .before .before .wide .ensures) in
+    let room : c .before .before .before .before .before .before .before .before .before .before .before .before .before .wide .result ≤ length (c .before .before .before .before .before .before .before .before .before .before .before .before .before .before .before .before .loop .lower) = omega (arith, t .reading .long, b .room _ here, c .before .before .before .before .before .before .before .before .before .before .before .before .before .wide .ensures) in
+    let g = c .before .before .before .before .before .before .before .before .gather .ensures in
+    record {
+      same = c .before .before .before .before .before .before .before .before .gather .kept .1 .1 .1 .1 .0 ∙ t .same;
+      upward = subst (λ (m : ℕ). Upward m (c .before .before .before .before .before .before .before .before .gather .last .1 .1 .1 .1 .1 .0)) (t .same) (g .upward);
+      within = omega arith;
+      start = c .before .before .before .before .before .before .before .before .before .before .before .before .before .wide .ensures ∙ sym (begin-next _ _);
+      reading = read-on (t .reading) _ order room (g .leaves);
+      weighed = weighs-stretch _ _ _ order (t .weighed) (rw (read-part (t .reading) (c .before .before .before .before .before .before .before .before .before .before .before .before .before .wide .result - c .before .before .before .before .before .before .before .before .before .before .before .before .before .before .before .before .loop .at)) at (g .weighed));
+      untouched = untouched-on (t .untouched) (g .untouched);
+      raised = λ E k f. raise-gather (t .same) (read-part (t .reading) (c .before .before .before .before .before .before .before .before .before .before .before .before .before .wide .result - c .before .before .before .before .before .before .before .before .before .before .before .before .before .before .before .before .loop .at) ∙ filed-part f _ here (t .start) (c .before .before .before .before .before .before .before .before .before .before .before .before .before .wide .ensures)) g k (t .raised E k f);
+    }
+
+same-length : tie.Need-same-length Inv-loop μ-loop
+same-length c = search needs
+
+same-length-2 : tie.Need-same-length-2 Inv-loop μ-loop
+same-length-2 c = search needs
+
+same-length-3 : tie.Need-same-length-3 Inv-loop μ-loop
+same-length-3 c = c .before .loop .inv .same ∙ sym (c .before .before .before .before .before .before .before .pre .long)
+
+same-length-4 : tie.Need-same-length-4 Inv-loop μ-loop
+same-length-4 c = c .before .loop .inv .upward .long ∙ sym (ap length (c .before .before .before .before .before .before .before .pre .blank-jump) ∙ length-replicate _ absent)
+
+returns : tie.Need-returns Inv-loop μ-loop
+returns c =
+    let t = c .before .loop .inv in
+    let done : c .before .loop .y ≡ length (c .before .before .before .before .before .before .before .args .ends .now) = omega (arith, c .loop-test .left, t .within) in
+    record {
+      untouched = t .untouched;
+      raised = λ E k f. raise-end k (c .loop-test .left) (t .raised E k f);
+      last = t .start ∙ ap (begin _) done;
+      weighed = t .weighed;
+      leaves = t .reading;
+    }
+
+pub raise-spec : {M : Type 1} → statement M
+raise-spec =
+    tie.close
+    (tie.spec
+    Inv-loop
+    μ-loop
+    loop-holds
+    mul-wide
+    shared-slice-read-wide
+    wide-requires
+    cast-gather
+    mul-gather
+    sub-gather
+    part-gather-start
+    part-gather-end
+    gather-requires
+    add-y
+    loop-less
+    loop-again
+    same-length
+    same-length-2
+    same-length-3
+    same-length-4
+    returns)

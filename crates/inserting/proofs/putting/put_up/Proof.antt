@@ -1,0 +1,48 @@
+use native.Mathlib.Omega.{arith}
+use Prim.Native.Nat.{_-_}
+use lib.ListN.{length}
+use Rattle.game.specs.Edge.{_─_}
+use Rattle.inserting.proofs.Put.{Trading, trade-start, trade-step, trade-end}
+use Rattle.inserting.proofs.putting.put_up.Statement.{statement}
+use Rattle.inserting.proofs.putting.put_up.Tie as tie
+
+abbrev Inv-loop : tie.InvT-loop
+Inv-loop parents₀ from to low₀ high₀ steps₀ parents low high steps = Trading parents₀ (from ─ to) parents low high steps
+
+abbrev μ-loop : tie.MeasureT-loop
+μ-loop parents₀ from to low₀ high₀ steps₀ parents low high steps = length parents₀ - low
+
+loop-holds : tie.Need-loop-holds Inv-loop μ-loop
+loop-holds c = trade-start (c .before .pre .0) (c .before .pre .1) (c .before .pre .2)
+
+exchange-requires : tie.Need-exchange-requires Inv-loop μ-loop
+exchange-requires c κs = (c .before .before .loop .inv .table, c .before .loop-test .taken, omega (arith, c .before .before .loop .inv .inside, c .before .before .loop .inv .same))
+
+add-steps : tie.Need-add-steps Inv-loop μ-loop
+add-steps c = omega (arith, c .before .before .before .before .before .loop .inv .quick, c .before .before .before .before .before .loop .inv .inside, c .before .before .before .before .before .loop .inv .order)
+
+loop-less : tie.Need-loop-less Inv-loop μ-loop
+loop-less c = omega (arith, c .before .before .exchange .ensures .higher, c .before .before .before .before .before .loop .inv .inside, c .before .before .before .before .loop-test .taken)
+
+loop-again : tie.Need-loop-again Inv-loop μ-loop
+loop-again c = trade-step (c .before .before .before .before .before .loop .inv) (c .before .before .exchange .ensures)
+
+same-length : tie.Need-same-length Inv-loop μ-loop
+same-length c = c .before .loop .inv .same
+
+returns : tie.Need-returns Inv-loop μ-loop
+returns c = trade-end (c .before .loop .inv) (c .loop-test .left)
+
+pub put-up-spec : {M : Type 1} → statement M
+put-up-spec =
+    tie.close
+    (tie.spec
+    Inv-loop
+    μ-loop
+    loop-holds
+    exchange-requires
+    add-steps
+    loop-less
+    loop-again
+    same-length
+    returns)

@@ -1,0 +1,2 @@
+-- Edges put into a forest.
+pub mod Putting

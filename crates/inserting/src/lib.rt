@@ -1,0 +1,5 @@
+// A list of edges taken into a net: put in edge by edge, by exchanges, or grown with the whole forest.
+mod extending;
+mod putting;
+
+pub use extending::extend;
