@@ -13,7 +13,7 @@ use Rattle.adding.specs.Add.{addOutcome}
 use Rattle.joining.specs.Join.{joinOutcome}
 use Rattle.forest.specs.Promise.{Valid}
 use Rattle.forest.proofs.Promise.{start-valid, add-valid, join-valid, add-not-30, join-not-30}
-use Rattle.linkfile.specs.LinkFile.{readOutcome}
+use Rattle.reading.specs.Read.{readOutcome}
 use Rattle.linkfile.proofs.RoundTrip.{read-valid, save-not-30}
 use Rattle.partition.proofs.Division.{divide-not-30}
 use Rattle.report.proofs.Own.{report-not-30}

@@ -30,8 +30,10 @@ use Rattle.joining.proofs.Accepted.{joinable}
 use Rattle.adding.proofs.Accepted.{addable}
 use Rattle.starting.proofs.Accepted.{startable}
 use Rattle.forest.proofs.Laws.{grown-net, joined-net}
-use Rattle.linkfile.specs.LinkFile.{linkFile, fileNet, saveRefusal, saveOutcome, readRefusal, readOutcome}
-use Rattle.linkfile.proofs.Accepted.{save-accepted}
+use Rattle.records.specs.LinkFile.{linkFile, fileNet}
+use Rattle.saving.specs.Save.{saveRefusal, saveOutcome}
+use Rattle.saving.proofs.Accepted.{save-accepted}
+use Rattle.reading.specs.Read.{readRefusal, readOutcome}
 use Rattle.linkfile.proofs.RoundTrip.{file-net, undamaged-parents, undamaged-weights}
 use Rattle.relabel.specs.Relabel.{relabelOutcome}
 use Rattle.partition.specs.Divide.{divideOutcome}

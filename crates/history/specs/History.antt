@@ -14,7 +14,7 @@ use Rattle.game.specs.Edge.{Edge, edges}
 use Rattle.game.specs.Net.{Net, netOf}
 use Rattle.game.specs.Graph.{Same}
 use Rattle.refusal.specs.Verdict.{Verdict, accepted, refused}
-use Rattle.linkfile.specs.LinkFile.{linkFile}
+use Rattle.records.specs.LinkFile.{linkFile}
 use Rattle.cost.specs.declared.Totals.{Totals}
 use Rattle.cost.specs.Figures.{boundOf, volumeOf, totalsOf}
 use Rattle.report.specs.Report.{Lent, reportOutcome}

@@ -11,7 +11,7 @@ use Rattle.growth.specs.Work.{Work, Growing, growing}
 use Rattle.adding.specs.Add.{addOutcome}
 use Rattle.joining.specs.Join.{joinOutcome}
 use Rattle.forest.specs.Promise.{Valid}
-use Rattle.linkfile.specs.LinkFile.{saveOutcome}
+use Rattle.saving.specs.Save.{saveOutcome}
 use Rattle.partition.specs.Divide.{Tables, divideOutcome}
 use Rattle.report.specs.Report.{Lent, reportOutcome}
 use Rattle.history.specs.World.{Call, start, add, join, save, read, relabel, divide, report}

@@ -18,7 +18,8 @@ use Rattle.growth.specs.Work.{Work, Growing, growing}
 use Rattle.starting.specs.Start.{startOutcome}
 use Rattle.adding.specs.Add.{addOutcome}
 use Rattle.joining.specs.Join.{joinOutcome}
-use Rattle.linkfile.specs.LinkFile.{saveOutcome, readOutcome}
+use Rattle.saving.specs.Save.{saveOutcome}
+use Rattle.reading.specs.Read.{readOutcome}
 use Rattle.relabel.specs.Relabel.{Tables, relabelOutcome}
 use Rattle.partition.specs.Divide.{Tables as Division, divideOutcome}
 use Rattle.report.specs.Report.{Lent, reportOutcome}

@@ -1,4 +1,1 @@
-pub mod Records
-pub mod Check
-pub mod Accepted
 pub mod RoundTrip

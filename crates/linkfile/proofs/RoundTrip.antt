@@ -14,6 +14,7 @@ use Rattle.game.specs.Table.{Below}
 use Rattle.game.specs.Game.{absent}
 use Rattle.game.specs.Tree.{sound}
 use Rattle.game.specs.Net.{Net, total, net as lent}
+use Rattle.game.proofs.Bools.{or-neither}
 use Rattle.game.proofs.Sound.{Sound, Allowed, getD-default, true-sound}
 use Rattle.game.proofs.Tables.{sum-entry}
 use Rattle.refusal.specs.Limits.{maxVertices, maxTotal}
@@ -22,14 +23,17 @@ use Rattle.refusal.specs.Verdict.{accepted, refused}
 use Rattle.refusal.specs.Outcome.{ended, decided}
 use Rattle.net.specs.Damage.{damaged, damagedBy}
 use Rattle.net.proofs.Scan.{undamaged}
-use Rattle.linkfile.specs.LinkFile.{records, linkFile, recordParents, recordWeights, fileNet, saveRefusal, saveOutcome, unfit, readRefusal, readOutcome}
+use Rattle.records.specs.LinkFile.{records, linkFile, recordParents, recordWeights, fileNet}
+use Rattle.saving.specs.Save.{saveRefusal, saveOutcome}
+use Rattle.reading.specs.Read.{unfit, readRefusal, readOutcome}
 use Rattle.refusal.proofs.First.{good-count, unless-accepted}
 use Rattle.refusal.proofs.Ends.{accepted-none, ends-accepted}
 use Rattle.refusal.proofs.Never.{end-not, other-not, false-not, verdict-not}
 use Rattle.forest.specs.Promise.{Valid}
 use Rattle.forest.proofs.Promise.{valid-undamaged}
-use Rattle.linkfile.proofs.Accepted.{undamaged-fit, save-accepted, read-accepted, save-passes, read-passes}
-use Rattle.linkfile.proofs.Records.{file-lengths}
+use Rattle.saving.proofs.Accepted.{save-accepted, save-passes}
+use Rattle.reading.proofs.Accepted.{read-accepted, read-passes}
+use Rattle.reading.proofs.Records.{file-lengths}
 
 -- the columns of the records are the tables
 records-columns : (ps ws : List ℕ) → length ws ≡ length ps → (recordParents (records ps ws) ≡ ps) × (recordWeights (records ps ws) ≡ ws)
@@ -94,6 +98,11 @@ module _ (net : Net) (few : length (net .parents) ≤ maxVertices) (fine : damag
 
   pub undamaged-weights : Below (2 ^ 32) (net .weights)
   undamaged-weights = record { each = λ i h. omega (arith, sum-entry (net .weights) i, safe .1) }
+
+-- a net without damage may be read
+pub undamaged-fit : (net : Net) → damaged net ≡ false → unfit net ≡ 0
+unfolding unfit first given damaged damagedBy
+undamaged-fit net e = let h = or-neither (not (sound (net .parents))) (ltb maxTotal (total net)) e in rw (h .0, h .1)
 
 -- a saved net may be read from its file, and is the net that the file says
 saved-file : (of : Net) (m : ℕ) → saveRefusal of m ≡ 0 → (unfit (fileNet (linkFile of)) ≡ 0) × (fileNet (linkFile of) ≡ of)

@@ -1,2 +1,0 @@
--- Link files, and the calls that save and read them.
-pub mod LinkFile

@@ -1,0 +1,2 @@
+-- Link files.
+pub mod LinkFile

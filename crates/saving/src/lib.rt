@@ -1,0 +1,4 @@
+// Saving a net as a link file.
+mod saving;
+
+pub use saving::save;
