@@ -1,12 +1,11 @@
 -- Counts as sums of ones, and how they are bounded.
 -- Assumes nothing.
-use mathlib.Core.Path.{_≡_, refl, sym, ap, _∙_}
+use mathlib.Core.Path.{_≡_, refl, sym}
 use mathlib.Core.Logic.{_≢_, by-cases}
 use mathlib.Core.Bool.{Bool, true, false, _&&_, _||_}
 use mathlib.Core.List.{List, [], _∷_, List·Memᴰ, List·Memᴰ·head, List·Memᴰ·tail}
 use Prim.Native.Nat.{ℕ, zero, suc, _+_, _≤_, _<_}
-use native.Mathlib.Nat.{le-trans, le-of-eq, zero-add, add-zero, suc-add, add-suc}
-use native.Mathlib.Numerals.{add-one}
+use native.Mathlib.Nat.{le-trans, le-of-eq}
 use native.Mathlib.Decide.{ℕ-discrete, decLt}
 use native.Mathlib.Omega.{arith}
 use lib.Dec.{eqb}
@@ -69,17 +68,3 @@ members-count t n (z ∷ ys) =
         by-cases (ℕ-discrete y z)
         (λ (e : y ≡ z). rw (eq-eqb y z e, eq-eqb z y (sym e)) (omega (arith, passes (t y))))
         (λ (d : y ≢ z). rw (ne-eqb y z d, ne-eqb z y (λ e. d (sym e))) (omega arith))
-
-from-next : (a k : ℕ) (f : ℕ → ℕ) → sum (tabulateFrom a (suc k) f) ≡ sum (tabulateFrom a k f) + f (a + k)
-unfolding tabulateFrom sum
-from-next a zero f = omega (arith, ap f (add-zero a))
-from-next a (suc k) f = omega (arith, from-next (suc a) k f, ap f (suc-add a k), ap f (add-suc a k))
-
--- one entry more
-pub sum-next : (n : ℕ) (f : ℕ → ℕ) → sum (tabulate (n + 1) f) ≡ sum (tabulate n f) + f n
-unfolding tabulate
-sum-next n f = rw (add-one n) (from-next 0 n f ∙ ap (λ (v : ℕ). sum (tabulateFrom 0 n f) + v) (ap f (zero-add n)))
-
-pub sum-none : (f : ℕ → ℕ) → sum (tabulate 0 f) ≡ 0
-unfolding tabulate tabulateFrom sum
-sum-none f = refl

@@ -1,18 +1,17 @@
--- What the counting of figures promises, step by step. No public promise speaks of it.
+-- What the counting of blocks promises, step by step. No public promise speaks of it.
 -- Assumes nothing.
 use mathlib.Core.Path.{_≡_}
-use mathlib.Core.Bool.{cond}
 use mathlib.Core.List.{List, [], _∷_, _++_, map}
-use Prim.Native.Nat.{ℕ, zero, suc, _+_, _-_, _≤_, _<_}
+use Prim.Native.Nat.{ℕ, zero, suc, _+_, _≤_, _<_}
 use lib.Dec.{eqb}
 use lib.ListN.{length, getD}
-use Rattle.game.specs.Table.{tabulate, sum, member}
+use Rattle.game.specs.Table.{member}
 use Rattle.game.specs.Edge.{Edge}
-use Rattle.game.specs.Net.{reach, weights as weightsOf}
+use Rattle.game.specs.Net.{weights as weightsOf}
 use Rattle.refusal.specs.Limits.{maxVertices}
 use Rattle.bucket.specs.Filed.{Consecutive, bucketOf, Filed}
 use Rattle.packing.specs.Pack.{maxBlocks}
-use Rattle.cost.specs.Figures.{different, isCut}
+use Rattle.cost.specs.Figures.{different}
 
 -- the block of a vertex that has a weight, that is, a higher neighbour
 unfoldable pub ownBlock : ℕ → ℕ → List ℕ
@@ -65,16 +64,3 @@ pub record Countable (es : List Edge) (weights block ends lower blockCount : Lis
   pub weighed : weights ≡ weightsOf (length block) es
   pub blocks : (x : ℕ) → x < length block → getD block x 0 < maxBlocks
   pub table : length blockCount ≡ length block
-
--- the bound and the volume, by the tables of a report: what each vertex adds, and the sums
-unfoldable pub boundTerm : List ℕ → List ℕ → List ℕ → ℕ → ℕ
-boundTerm p top reach x = cond (isCut p top x) (getD reach x 0) 0
-
-unfoldable pub boundBy : List ℕ → List ℕ → List ℕ → ℕ
-boundBy p top reach = sum (tabulate (length p) (boundTerm p top reach))
-
-unfoldable pub volumeTerm : List ℕ → ℕ → ℕ
-volumeTerm blockCount x = getD blockCount x 0 - 1
-
-unfoldable pub volumeBy : List ℕ → ℕ
-volumeBy blockCount = sum (tabulate (length blockCount) (volumeTerm blockCount))

@@ -1,7 +1,6 @@
 // What a division costs: the block of each edge, the number of blocks that each vertex meets, and the bound and the volume of
 // communication between the blocks.
 mod counting;
-mod summing;
 
 pub use counting::write_block_counts;
 pub use counting::write_edge_blocks;

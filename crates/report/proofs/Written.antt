@@ -28,9 +28,11 @@ use Rattle.reach.proofs.Counts.{bool-false}
 use Rattle.cost.specs.Figures.{different, edgeBlocks, blocksAt, blockCount, bound, boundOf, volumeOf, totals, totalsOf}
 use Rattle.refusal.specs.Verdict.{accepted}
 use Rattle.report.specs.Report.{written, figures}
-use Rattle.cost.specs.Steps.{boundBy, volumeBy, Countable}
+use Rattle.summing.specs.Steps.{boundBy, volumeBy}
+use Rattle.cost.specs.Steps.{Countable}
 use Rattle.report.specs.Steps.{Reportable, Spread, Answered}
-use Rattle.cost.proofs.Sums.{table-total, sum-next}
+use Rattle.summing.proofs.Sums.{sum-next}
+use Rattle.cost.proofs.Sums.{table-total}
 use Rattle.cost.proofs.Blocks.{block-at}
 use Rattle.cost.proofs.Divided.{cuts, packed, divided-top, divided-block, block-below}
 use Rattle.cost.proofs.Stamps.{different-total}

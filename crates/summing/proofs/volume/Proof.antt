@@ -4,11 +4,10 @@ use Prim.Native.Nat.{ℕ, _*_, _-_, _≤_}
 use lib.ListN.{length}
 use borrow.Author.Needs.{needs}
 use Rattle.game.specs.Table.{tabulate, sum as total}
-use Rattle.cost.specs.Steps.{volumeTerm, volumeBy}
-use Rattle.cost.proofs.Summed.{sum-step}
-use Rattle.cost.proofs.Sums.{sum-none}
-use Rattle.cost.proofs.summing.volume.Statement.{statement}
-use Rattle.cost.proofs.summing.volume.Tie as tie
+use Rattle.summing.specs.Steps.{volumeTerm, volumeBy}
+use Rattle.summing.proofs.Sums.{sum-step, sum-none}
+use Rattle.summing.proofs.volume.Statement.{statement}
+use Rattle.summing.proofs.volume.Tie as tie
 
 abbrev Inv-loop : tie.InvT-loop
 Inv-loop block-count sum₀ x₀ sum x =

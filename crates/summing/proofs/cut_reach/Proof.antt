@@ -1,7 +1,7 @@
 use borrow.Author.Needs.{needs}
-use Rattle.cost.proofs.Summed.{cut-other, cut-root, cut-here}
-use Rattle.cost.proofs.summing.cut_reach.Statement.{statement}
-use Rattle.cost.proofs.summing.cut_reach.Tie as tie
+use Rattle.summing.proofs.Sums.{cut-other, cut-root, cut-here}
+use Rattle.summing.proofs.cut_reach.Statement.{statement}
+use Rattle.summing.proofs.cut_reach.Tie as tie
 
 returns : tie.Need-returns
 returns c = cut-other (c .before .args .x) (c .before .args .parent) (c .before .args .top) (c .before .args .reach) (c .if1 .taken)

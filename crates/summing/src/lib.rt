@@ -2,17 +2,14 @@
 use net::Net;
 use table::amount;
 ghost use mathlib.Core.Path.{_≡_};
-ghost use mathlib.Core.Bool.{not, _&&_, cond};
 ghost use Prim.Native.Nat.{_-_, _≤_};
-ghost use lib.Dec.{eqb};
 ghost use lib.ListN.{length};
-ghost use Rattle.game.specs.Game.{absent};
 ghost use Rattle.refusal.specs.Limits.{maxVertices};
-ghost use Rattle.cost.specs.Steps.{boundBy, volumeBy};
+ghost use Rattle.summing.specs.Steps.{cutReach, boundBy, volumeBy};
 
 // What vertex x adds to the bound: its reach, if it is cut.
 fn cut_reach(x: usize, parent: u32, top: u32, reach: u32) -> u64
-    ensures { λ r. ⌜ r ≡ cond (eqb top x && not (eqb parent absent)) reach 0 ⌝ }
+    ensures { λ r. ⌜ r ≡ cutReach x parent top reach ⌝ }
 {
     if top as usize != x {
         return 0;

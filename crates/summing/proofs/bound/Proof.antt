@@ -4,11 +4,10 @@ use Prim.Native.Nat.{ℕ, _*_, _-_, _≤_}
 use lib.ListN.{length}
 use borrow.Author.Needs.{needs}
 use Rattle.game.specs.Table.{tabulate, sum as total}
-use Rattle.cost.specs.Steps.{boundTerm, boundBy}
-use Rattle.cost.proofs.Sums.{sum-none}
-use Rattle.cost.proofs.Summed.{bound-term, bound-term-le, sum-step}
-use Rattle.cost.proofs.summing.bound.Statement.{statement}
-use Rattle.cost.proofs.summing.bound.Tie as tie
+use Rattle.summing.specs.Steps.{boundTerm, boundBy}
+use Rattle.summing.proofs.Sums.{sum-none, bound-term, bound-term-le, sum-step}
+use Rattle.summing.proofs.bound.Statement.{statement}
+use Rattle.summing.proofs.bound.Tie as tie
 
 abbrev Inv-loop : tie.InvT-loop
 Inv-loop parents top reach sum₀ x₀ sum x =

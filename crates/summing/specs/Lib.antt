@@ -1,0 +1,2 @@
+-- Sums over the tables of a report.
+pub mod Steps
