@@ -2,12 +2,17 @@
 crates and runs the tests from outside (tests/run). These begin as soon as every crate is proved, beside the edits: they write only the
 library and their own files, and rt ci removes target/ at its start alone. The last line is 'N passed, M failed', of both together."""
 
+import os
 import queue
 import signal
 import subprocess
 import sys
 
 from progress import ROOT, Proving, Step, say
+
+
+# rt starts crates and edits in batches and waits for the slowest of each, so that two processors are kept busy by twice as many
+os.environ.setdefault("RT_JOBS", str(min(8, 2 * (os.cpu_count() or 1))))
 
 
 def toolchain():
