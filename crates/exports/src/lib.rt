@@ -13,7 +13,8 @@ ghost use Rattle.saving.specs.Save.{saveOutcome};
 ghost use Rattle.reading.specs.Read.{readOutcome};
 ghost use Rattle.partition.specs.Divide.{tables as divisionOf, divideOutcome};
 ghost use Rattle.relabel.specs.Relabel.{tables, relabelOutcome};
-ghost use Rattle.report.specs.Report.{written, lent, reportOutcome};
+ghost use Rattle.writing.specs.Written.{written};
+ghost use Rattle.report.specs.Report.{lent, reportOutcome};
 ghost use Rattle.cost.specs.Figures.{totals};
 ghost use Rattle.exports.specs.Returned.{returned, handed, reported, handedTotals};
 

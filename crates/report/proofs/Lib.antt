@@ -1,6 +1,5 @@
 -- Laws of the report, by subject. Nothing here needs to be believed: it is all proved.
 pub mod Own
 pub mod Refused
-pub mod Written
 pub mod Outcome
 pub mod Together

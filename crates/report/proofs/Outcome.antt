@@ -20,11 +20,12 @@ use Rattle.cost.specs.declared.Totals.{Totals}
 use Rattle.cost.specs.Figures.{totalsOf}
 use Rattle.compare.specs.Compare.{sameNet, unlike}
 use Rattle.compare.specs.Steps.{Compared}
-use Rattle.refusal.specs.Verdict.{Verdict, accepted, refused, judged}
+use Rattle.refusal.specs.Verdict.{accepted, refused, judged}
 use Rattle.refusal.specs.Outcome.{ended}
 use Rattle.refusal.proofs.Ends.{judged-accepted, judged-refused}
-use Rattle.report.specs.Report.{Written, Lent, lent, wrongLent, earlyRefusal, reportRefusal, figures, reportOutcome}
-use Rattle.report.specs.Steps.{Reportable, Answered}
+use Rattle.writing.specs.Written.{Written, figures}
+use Rattle.writing.specs.Steps.{Reportable, Answered}
+use Rattle.report.specs.Report.{Lent, lent, wrongLent, earlyRefusal, reportRefusal, reportOutcome}
 use Rattle.compare.proofs.Sameness.{same-net}
 use Rattle.report.proofs.Own.{same-passes}
 use Rattle.report.proofs.Refused.{ready}
@@ -123,12 +124,12 @@ module _ (of : Net) (B k : ℕ) (xs : List ℕ) (was : Lent) where
           }
 
       -- accepted: the figures, all tables, and the work tables cleared
-      pub ends-accepted : {loads : ℕ} {r : Verdict Totals} {new-written : Written} {work′ : Work} → loads ≡ length (was .written .division .blockLoads)
+      pub ends-accepted : {loads : ℕ} {r : Totals} {new-written : Written} {work′ : Work} → loads ≡ length (was .written .division .blockLoads)
           → Answered of B loads (edges xs) work r new-written work′ → cleared work ≡ cleared (was .work)
-          → ended r (lent new-written new work′) ≡ reportOutcome of B k xs was
+          → ended (accepted r) (lent new-written new work′) ≡ reportOutcome of B k xs was
       unfolding reportOutcome reportRefusal early late
       ends-accepted {loads} l a w =
-          ap₂ ended (a .answers ∙ (λ i. accepted (totalsOf of (edges xs) B (blocks i))) ∙ sym number)
+          ap₂ ended (ap accepted (a .answers) ∙ (λ i. accepted (totalsOf of (edges xs) B (blocks i))) ∙ sym number)
           ((λ i. lent ((a .writes ∙ ap (λ (m : ℕ). figures of B m (edges xs)) blocks ∙ sym (unless-accepted late (was .written) (figures of B k (edges xs)) none)) i) (c .net i) ((a .clear ∙ w) i))
           ∙ sym (unless-accepted early was _ z))
         where

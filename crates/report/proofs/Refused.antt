@@ -21,7 +21,8 @@ use Rattle.partition.proofs.Refused.{Sized, tables-not, refused-not}
 use Rattle.compare.specs.Compare.{wrongCompared}
 use Rattle.compare.specs.Steps.{Comparable}
 use Rattle.compare.proofs.Refused.{list-passed}
-use Rattle.report.specs.Report.{written, Lent, lent, wrongFigures, wrongLent, earlyRefusal}
+use Rattle.writing.specs.Written.{written}
+use Rattle.report.specs.Report.{Lent, lent, wrongFigures, wrongLent, earlyRefusal}
 
 -- the tables that are lent, one by one
 module _ (p w xs c t b l eb re bc cp cw e j lo : List ℕ) where

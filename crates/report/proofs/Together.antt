@@ -19,7 +19,8 @@ use Rattle.cost.specs.declared.Totals.{Totals}
 use Rattle.cost.specs.Laid.{Together}
 use Rattle.cost.proofs.Laid.{blocks-laid-together, block-charges}
 use Rattle.compare.specs.Compare.{sameNet, unlike}
-use Rattle.report.specs.Report.{Written, Lent, wrongLent, earlyRefusal, reportRefusal, figures, reportOutcome}
+use Rattle.writing.specs.Written.{Written, figures}
+use Rattle.report.specs.Report.{Lent, wrongLent, earlyRefusal, reportRefusal, reportOutcome}
 use Rattle.compare.proofs.Sameness.{same-net}
 use Rattle.report.proofs.Refused.{ready}
 

@@ -19,7 +19,8 @@ use Rattle.compare.specs.Compare.{wrongCompared, listRefusal, sameTable, sameNe
 use Rattle.refusal.specs.Verdict.{accepted, refused, judged}
 use Rattle.refusal.specs.Outcome.{Outcome, ended}
 use Rattle.cost.specs.declared.Totals.{Totals}
-use Rattle.report.specs.Report.{Written, written, Lent, lent, wrongFigures, wrongLent, earlyRefusal, reportRefusal, figures, reportOutcome}
+use Rattle.writing.specs.Written.{Written, written, figures}
+use Rattle.report.specs.Report.{Lent, lent, wrongFigures, wrongLent, earlyRefusal, reportRefusal, reportOutcome}
 
 -- the net of the whole case and its edges, by rank
 whole : Net

@@ -11,34 +11,24 @@ use mathlib.Core.Bool.{Bool, _||_}
 use mathlib.Core.List.{List, [], _∷_}
 use Prim.Native.Nat.{ℕ}
 use lib.ListN.{length}
-use Rattle.game.specs.Table.{tabulate}
 use Rattle.game.specs.Edge.{Edge, edges}
-use Rattle.game.specs.Net.{Net, netOf, reach}
+use Rattle.game.specs.Net.{Net, netOf}
 use Rattle.refusal.specs.Refusal.{given, first, unless, badCount, wrongLength, odd}
 use Rattle.refusal.specs.Verdict.{judged}
 use Rattle.refusal.specs.Outcome.{Outcome, ended}
 use Rattle.net.specs.Damage.{damaged}
 use Rattle.growth.specs.Work.{Work, cleared}
-use Rattle.partition.specs.Divide.{Tables, tables, badLimits, tooHeavy, divided, wrongTables}
+use Rattle.partition.specs.Divide.{badLimits, tooHeavy, wrongTables}
 use Rattle.cost.specs.declared.Totals.{Totals}
-use Rattle.cost.specs.Figures.{edgeBlocks, blockCount, totalsOf}
+use Rattle.cost.specs.Figures.{totalsOf}
+use Rattle.writing.specs.Written.{Written, figures}
 use Rattle.compare.specs.Compare.{wrongCompared, listRefusal, unlike}
 
--- what Report writes of a net: Divide's tables, and the figures of the edges and the vertices
-pub record Written : Type 0 where
-  pub division : Tables
-  pub edgeBlocks : List ℕ
-  pub reach : List ℕ
-  pub blockCount : List ℕ
-
--- every table that it is lent to write: those, the comparison tables, and the work tables
+-- every table that Report is lent to write: those of a net, the comparison tables, and the work tables
 pub record Lent : Type 0 where
   pub written : Written
   pub compared : Net
   pub work : Work
-
-abbrev pub written : Tables → (edgeBlocks reach blockCount : List ℕ) → Written
-written d e r c = record { division = d; edgeBlocks = e; reach = r; blockCount = c }
 
 abbrev pub lent : Written → Net → Work → Lent
 lent w c o = record { written = w; compared = c; work = o }
@@ -70,13 +60,6 @@ earlyRefusal of B k xs wrong =
 -- the number for which Report is refused, or 0; 23 comes last
 unfoldable pub reportRefusal : Net → ℕ → ℕ → List ℕ → Lent → ℕ
 reportRefusal of B k xs was = first (earlyRefusal of B k xs (wrongLent of k xs was) ∷ unlike of (edges xs) ∷ [])
-
--- what Report writes when it is accepted
-unfoldable pub figures : Net → ℕ → ℕ → List Edge → Written
-figures of B k es =
-    let division : Tables = divided of B k in
-    let n : ℕ = length (of .parents) in
-    written division (edgeBlocks (division .block) es) (tabulate n (reach (of .parents) es)) (tabulate n (blockCount k (division .block) es))
 
 unfoldable pub reportOutcome : Net → ℕ → ℕ → List ℕ → Lent → Outcome Totals Lent
 reportOutcome of B k xs was =

@@ -27,7 +27,8 @@ use Rattle.cost.specs.declared.Totals.{Totals}
 use Rattle.cost.specs.Figures.{totalsOf}
 use Rattle.compare.specs.Compare.{wrongCompared, unlike}
 use Rattle.compare.proofs.Refused.{list-passes}
-use Rattle.report.specs.Report.{Written, Lent, wrongFigures, wrongLent, earlyRefusal, reportRefusal, figures, reportOutcome}
+use Rattle.writing.specs.Written.{Written, figures}
+use Rattle.report.specs.Report.{Lent, wrongFigures, wrongLent, earlyRefusal, reportRefusal, reportOutcome}
 use Rattle.report.proofs.Own.{same-passes}
 use Rattle.printing.specs.Lines.{rankText, linesBelow, totalsText}
 use Rattle.printing.specs.Steps.{Columns, answerText, lineRoom, totalsRoom}

@@ -14,7 +14,8 @@ use Rattle.growth.specs.Work.{workOf}
 use Rattle.partition.specs.Divide.{badLimits, tables}
 use Rattle.packing.specs.Pack.{maxBlocks}
 use Rattle.partition.proofs.Refused.{limits-not}
-use Rattle.report.specs.Report.{written, lent}
+use Rattle.writing.specs.Written.{written}
+use Rattle.report.specs.Report.{lent}
 use Rattle.files.specs.Files.{vertexCapacity, edgeCapacity}
 use Rattle.files.specs.Steps.{endCapacity}
 use Rattle.run.specs.Steps.{Runnable, GrowRoom, Ready}

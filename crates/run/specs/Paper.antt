@@ -12,7 +12,7 @@ use Rattle.refusal.specs.Refusal.{given, first, unless, wrongLength, fault, fir
 use Rattle.relabel.specs.Relabel.{badOrder, relabelled}
 use Rattle.partition.specs.Divide.{badLimits, tooHeavy, divided}
 use Rattle.cost.specs.Figures.{edgeBlock, edgeBlocks, touches, blocksAt, different, blockCount, isCut, bound, volume, boundOf, volumeOf, totalsOf}
-use Rattle.report.specs.Report.{figures}
+use Rattle.writing.specs.Written.{figures}
 use Rattle.words.specs.Word.{bytesOf, words, wordAt}
 use Rattle.decimal.specs.Ascii.{ascii}
 use Rattle.decimal.specs.Decimal.{decimal}

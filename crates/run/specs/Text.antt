@@ -7,7 +7,7 @@ use Rattle.game.specs.Edge.{Edge}
 use Rattle.game.specs.Net.{Net, netOf}
 use Rattle.refusal.specs.Refusal.{unless}
 use Rattle.cost.specs.Figures.{totalsOf}
-use Rattle.report.specs.Report.{Written, figures}
+use Rattle.writing.specs.Written.{Written, figures}
 use Rattle.printing.specs.Lines.{refusedText, rankText, linesBelow, totalsText}
 use Rattle.files.specs.Files.{Files, order, limit, blocks}
 use Rattle.run.specs.Run.{rankedEdges, runRefusal}

@@ -1,6 +1,7 @@
 use borrow.Author.Needs.{needs}
 use Rattle.report.specs.Answer.{verdict}
-use Rattle.report.specs.Report.{written, lent, earlyRefusal}
+use Rattle.writing.specs.Written.{written}
+use Rattle.report.specs.Report.{lent, earlyRefusal}
 use Rattle.report.proofs.Refused.{wrong-lengths, lengths-right, ready}
 use Rattle.report.proofs.Outcome.{ends-early, ends-late, write-ready, ends-accepted}
 use mathlib.Core.Path.{refl, sym, ap, _∙_}
@@ -105,6 +106,7 @@ same-length-17 : tie.Need-same-length-17
 same-length-17 c = c .before .before .before .before .before .before .before .before .before .before .before .before .before .before .before .before .before .before .before .before .write-report .kept .1 .1 .1 .1 .1 .1 .1 .1 .1 .1 .1 .1 .1 .0 ∙ c .before .before .before .before .before .before .before .before .before .before .before .before .before .before .before .before .before .before .before .before .before .before .before .before .before .before .before .before .before .before .before .before .before .before .before .before .before .before .before .before .before .before .compare .kept .1 .1 .1 .1 .1 .1 .1 .0
 
 returns-3 : tie.Need-returns-3
+unfolding verdict
 returns-3 c =
     let k = c .before .before .before .before .before .before .before .before .before .before .before .before .before .before .before .before .before .before .before .before .before .before .before .before .before .before .before .before .before .before .before .before .before .before .before .before .before .before .before .before .before .before .compare .kept in
     ends-accepted _ _ _ _ _

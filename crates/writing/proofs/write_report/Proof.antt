@@ -1,10 +1,9 @@
 use native.Mathlib.Omega.{arith}
 use borrow.Author.Needs.{needs}
-use Rattle.report.specs.Answer.{verdict}
-use Rattle.report.proofs.Written.{block-faultless, block-countable, top-long, reach-long, all-answered}
+use Rattle.writing.proofs.Written.{block-faultless, block-countable, top-long, reach-long, all-answered}
 use mathlib.Core.Path.{refl, _∙_}
-use Rattle.report.proofs.reporting.write_report.Statement.{statement}
-use Rattle.report.proofs.reporting.write_report.Tie as tie
+use Rattle.writing.proofs.write_report.Statement.{statement}
+use Rattle.writing.proofs.write_report.Tie as tie
 
 divide-and-reach-requires : tie.Need-divide-and-reach-requires
 divide-and-reach-requires c κs = (_, c .before .before .before .before .before .before .before .before .before .before .before .before .before .before .before .before .before .before .before .before .before .before .pre)
@@ -66,7 +65,6 @@ same-length-10 : tie.Need-same-length-10
 same-length-10 c = search needs
 
 returns : tie.Need-returns
-unfolding verdict
 returns c =
     let q = c .before .before .before .before .before .before .before .before .before .before .before .before .before .before .before .before .before .before .before .before .before .before .before .before .before .before .before .before .before .before .before .before .before .before .before .before .before .before .before .before .before .before .before .before .before .before .before .before .before .before .before .before .before .before .before .before .before .before .before .before .before .before .before .before .pre in
     let s = c .before .before .before .before .before .before .before .before .before .before .before .before .before .before .before .before .before .before .before .before .before .before .before .before .before .before .before .before .before .before .before .before .before .before .before .before .before .before .before .before .before .divide-and-reach .ensures _ q in

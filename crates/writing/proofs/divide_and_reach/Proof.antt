@@ -1,7 +1,7 @@
 use borrow.Author.Needs.{needs}
-use Rattle.report.proofs.Written.{fitting-kept}
-use Rattle.report.proofs.reporting.divide_and_reach.Statement.{statement}
-use Rattle.report.proofs.reporting.divide_and_reach.Tie as tie
+use Rattle.writing.proofs.Written.{fitting-kept}
+use Rattle.writing.proofs.divide_and_reach.Statement.{statement}
+use Rattle.writing.proofs.divide_and_reach.Tie as tie
 
 reaches-requires : tie.Need-reaches-requires
 reaches-requires c κs =

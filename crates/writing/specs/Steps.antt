@@ -13,10 +13,9 @@ use Rattle.partition.specs.Divide.{Tables, divided}
 use Rattle.partition.specs.Steps.{Fitting}
 use Rattle.groups.specs.Steps.{Divisible}
 use Rattle.reach.specs.Given.{Given}
-use Rattle.refusal.specs.Verdict.{Verdict, accepted}
 use Rattle.cost.specs.declared.Totals.{Totals}
 use Rattle.cost.specs.Figures.{totalsOf}
-use Rattle.report.specs.Report.{Written, figures}
+use Rattle.writing.specs.Written.{Written, figures}
 
 -- What writing is given: a net that is the net of its edges, which are filed, that Divide accepts, and tables that fit.
 pub record Reportable (p w : List ℕ) (B : ℕ) (es : List Edge) (ends lower : List ℕ) (was : Written) : Type 0 where
@@ -35,7 +34,7 @@ pub record Spread (p w : List ℕ) (B k : ℕ) (es : List Edge) (division : Tabl
   pub reached : reaches ≡ tabulate (length p) (reach p es)
 
 -- what writing leaves and answers
-pub record Answered (of : Net) (B k : ℕ) (es : List Edge) (work : Work) (r : Verdict Totals) (written : Written) (work′ : Work) : Type 0 where
-  pub answers : r ≡ accepted (totalsOf of es B k)
+pub record Answered (of : Net) (B k : ℕ) (es : List Edge) (work : Work) (r : Totals) (written : Written) (work′ : Work) : Type 0 where
+  pub answers : r ≡ totalsOf of es B k
   pub writes : written ≡ figures of B k es
   pub clear : work′ ≡ cleared work

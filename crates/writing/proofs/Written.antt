@@ -26,11 +26,10 @@ use Rattle.partition.specs.Steps.{Fitting}
 use Rattle.groups.proofs.Sums.{only}
 use Rattle.reach.proofs.Counts.{bool-false}
 use Rattle.cost.specs.Figures.{different, edgeBlocks, blocksAt, blockCount, bound, boundOf, volumeOf, totals, totalsOf}
-use Rattle.refusal.specs.Verdict.{accepted}
-use Rattle.report.specs.Report.{written, figures}
 use Rattle.summing.specs.Steps.{boundBy, volumeBy}
 use Rattle.cost.specs.Steps.{Countable}
-use Rattle.report.specs.Steps.{Reportable, Spread, Answered}
+use Rattle.writing.specs.Written.{written, figures}
+use Rattle.writing.specs.Steps.{Reportable, Spread, Answered}
 use Rattle.summing.proofs.Sums.{sum-next}
 use Rattle.cost.proofs.Sums.{table-total}
 use Rattle.cost.proofs.Blocks.{block-at}
@@ -130,10 +129,10 @@ module _ {p w c t b l eb re bc en lo : List ℕ} {es : List Edge} {B : ℕ} (q :
   -- all that was written, and the answer
   pub all-answered : {eb″ bc″ jump : List ℕ} {bo vo : ℕ} {work : Work} → eb″ ≡ edgeBlocks b′ es → bc″ ≡ tabulate (length b′) (blockCount maxBlocks b′ es)
       → work ≡ cleared (workOf en jump lo) → bo ≡ boundBy p t′ re′ → vo ≡ volumeBy bc″
-      → Answered (net p w) B (length l) es (workOf en jump lo) (accepted (totals bo vo)) (written (tables c′ t′ b′ l′) eb″ re′ bc″) work
+      → Answered (net p w) B (length l) es (workOf en jump lo) (totals bo vo) (written (tables c′ t′ b′ l′) eb″ re′ bc″) work
   unfolding figures totalsOf boundOf volumeOf of k
   all-answered {eb″} {bc″} f g z u v = record {
-    answers = ap₂ (λ (b v : ℕ). accepted (totals b v))
+    answers = ap₂ totals
         (u ∙ bound-by p es t′ (s .reached) ∙ ap (bound p es) top-is)
         (v ∙ volume-by (length p) (length l) (divided of B k .block) es counted);
     writes = λ i. written (s .divided-so i) ((f ∙ ap (λ (t : List ℕ). edgeBlocks t es) block-is) i) (s .reached i) (counted i);

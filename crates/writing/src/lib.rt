@@ -1,0 +1,98 @@
+// What a report writes of a net that is the net of its edges: the division, and what it costs. The list is filed already; the reaches
+// and the block counts are read from the same buckets.
+use cost::Totals;
+use partition::cut_and_pack;
+use reach::reaches;
+ghost use mathlib.Core.List.{List};
+ghost use lib.ListN.{length};
+ghost use Rattle.game.specs.Edge.{Edge, edges as edgesOf};
+ghost use Rattle.game.specs.Net.{net};
+ghost use Rattle.partition.specs.Divide.{tables};
+ghost use Rattle.growth.specs.Work.{workOf};
+ghost use Rattle.writing.specs.Written.{written};
+ghost use Rattle.writing.specs.Steps.{Reportable, Spread, Answered};
+
+// Divides the net, and writes the reaches of its vertices, from its edges as they are filed. The reaches come first: until the other
+// tables are written, they are room for the counting.
+fn divide_and_reach(
+    parents: &[u32],
+    weights: &[u32],
+    limit: u32,
+    ends: &[u32],
+    lower: &[u32],
+    carried: &mut [u32],
+    top: &mut [u32],
+    block: &mut [u32],
+    block_loads: &mut [u32],
+    edge_blocks: &mut [u32],
+    reach: &mut [u32],
+    block_count: &mut [u32],
+)
+    requires { ⌜ ((es : List Edge) × Reportable (now parents) (now weights) limit es (now ends) (now lower)
+        (written (tables (now carried) (now top) (now block) (now «block_loads»)) (now «edge_blocks») (now reach) (now «block_count»))) ⌝ }
+    ensures { λ _. ⌜ ((es : List Edge) → Reportable (now (parents .entry)) (now (weights .entry)) limit es (now (ends .entry)) (now (lower .entry))
+        (written (tables (now (carried .entry)) (now (top .entry)) (now (block .entry)) (now («block_loads» .entry))) (now («edge_blocks» .entry)) (now (reach .entry)) (now («block_count» .entry)))
+        → Spread (now (parents .entry)) (now (weights .entry)) limit (length (now («block_loads» .entry))) es
+        (tables (now (carried .exit)) (now (top .exit)) (now (block .exit)) (now («block_loads» .exit))) (now (reach .exit))) ⌝ }
+{
+    reaches(
+        parents,
+        weights,
+        ends,
+        lower,
+        reach,
+        carried,
+        top,
+        block,
+        block_count,
+        edge_blocks,
+    );
+    cut_and_pack(parents, weights, limit, carried, top, block, block_loads);
+}
+
+// Writes all that a report says of a net, and answers its bound and its volume. The edges are filed in the work tables, which end as
+// zeros.
+pub fn write_report(
+    parents: &[u32],
+    weights: &[u32],
+    limit: u32,
+    edges: &[u32],
+    carried: &mut [u32],
+    top: &mut [u32],
+    block: &mut [u32],
+    block_loads: &mut [u32],
+    edge_blocks: &mut [u32],
+    reach: &mut [u32],
+    block_count: &mut [u32],
+    ends: &mut [u32],
+    jump: &mut [u32],
+    lower: &mut [u32],
+) -> Totals
+    requires { ⌜ Reportable (now parents) (now weights) limit (edgesOf (now edges)) (now ends) (now lower)
+        (written (tables (now carried) (now top) (now block) (now «block_loads»)) (now «edge_blocks») (now reach) (now «block_count»)) ⌝ }
+    ensures { λ r. ⌜ Answered (net (now (parents .entry)) (now (weights .entry))) limit (length (now («block_loads» .entry))) (edgesOf (now (edges .entry)))
+        (workOf (now (ends .entry)) (now (jump .entry)) (now (lower .entry))) r
+        (written (tables (now (carried .exit)) (now (top .exit)) (now (block .exit)) (now («block_loads» .exit))) (now («edge_blocks» .exit)) (now (reach .exit)) (now («block_count» .exit)))
+        (workOf (now (ends .exit)) (now (jump .exit)) (now (lower .exit))) ⌝ }
+{
+    divide_and_reach(
+        parents,
+        weights,
+        limit,
+        ends,
+        lower,
+        carried,
+        top,
+        block,
+        block_loads,
+        edge_blocks,
+        reach,
+        block_count,
+    );
+    cost::write_edge_blocks(edges, block, edge_blocks);
+    cost::write_block_counts(weights, block, ends, lower, block_count);
+    growth::clear(ends, jump, lower, 0);
+    let bound = cost::bound(parents, top, reach);
+    let volume = cost::volume(block_count);
+    Totals { bound, volume }
+}
