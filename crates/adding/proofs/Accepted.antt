@@ -11,18 +11,18 @@ use Rattle.game.specs.Net.{total, charges}
 use Rattle.refusal.specs.Limits.{maxTotal}
 use Rattle.refusal.specs.Refusal.{firstFault, odd}
 use Rattle.refusal.proofs.First.{first-none, given-none}
-use Rattle.growth.specs.Work.{Growing}
+use Rattle.growth.specs.Work.{NetWithWork}
 use Rattle.adding.specs.Add.{addRefusal}
 use Rattle.growth.proofs.Whole.{Whole, Room, whole, room}
 
-pub record Addable (g : Growing) (xs : List ℕ) : Type 0 where
+pub record Addable (g : NetWithWork) (xs : List ℕ) : Type 0 where
   pub net : Whole (g .net)
   pub work : Room (length (g .net .parents)) (length (g .net .parents) + length (edges xs)) (g .work)
   pub even : odd xs ≡ false
   pub faultless : firstFault (length (g .net .parents)) (edges xs) ≡ 0
   pub light : total (g .net) + charges (edges xs) ≤ maxTotal
 
-pub addable : (g : Growing) (xs : List ℕ) → addRefusal g xs ≡ 0 → Addable g xs
+pub addable : (g : NetWithWork) (xs : List ℕ) → addRefusal g xs ≡ 0 → Addable g xs
 unfolding addRefusal
 addable g xs z =
     let a = first-none _ _ z in

@@ -12,12 +12,12 @@ use Rattle.game.proofs.Sound.{true-sound}
 use Rattle.game.proofs.Tables.{sum-entry}
 use Rattle.bucket.specs.Ends.{tallied}
 use Rattle.bucket.proofs.Tallied.{tally-weights}
-use Rattle.growth.specs.Work.{growing, workOf, cleared}
+use Rattle.growth.specs.Work.{withWork, workOf, cleared}
 use Rattle.adding.specs.Add.{grown}
 use Rattle.inserting.specs.Putting.{Extendable, Weighable, Extends}
 use Rattle.adding.proofs.Accepted.{Addable}
 
-module _ {p w e j l : List ℕ} {xs : List ℕ} (a : Addable (growing (net p w) (workOf e j l)) xs) where
+module _ {p w e j l : List ℕ} {xs : List ℕ} (a : Addable (withWork (net p w) (workOf e j l)) xs) where
   pub add-extendable : Extendable p xs e j l
   add-extendable = record {
     table = record { few = a .net .few; sound = true-sound (a .net .sound) };
@@ -35,8 +35,8 @@ module _ {p w e j l : List ℕ} {xs : List ℕ} (a : Addable (growing (net p w) 
     light = record { light = λ v h. omega (arith, sum-entry w v, a .light, a .work .lower, a .net .few, charges-count (edges xs)) };
   }
 
-  pub add-ends : {w′ p′ e′ j′ l′ : List ℕ} → Extends p xs e j l p′ e′ j′ l′ × (w′ ≡ tallied false (edges xs) w) → growing (net p′ w′) (workOf e′ j′ l′) ≡ growing (grown (net p w) (edges xs)) (cleared (workOf e j l))
+  pub add-ends : {w′ p′ e′ j′ l′ : List ℕ} → Extends p xs e j l p′ e′ j′ l′ × (w′ ≡ tallied false (edges xs) w) → withWork (net p′ w′) (workOf e′ j′ l′) ≡ withWork (grown (net p w) (edges xs)) (cleared (workOf e j l))
   unfolding grown
-  add-ends (x, t) = ap₂ growing
+  add-ends (x, t) = ap₂ withWork
       (ap₂ net (x .grown) (t ∙ tally-weights (edges xs) w ∙ ap (λ (n : ℕ). zipWith _+_ w (weights n (edges xs))) (a .net .long)))
       (x .clear)

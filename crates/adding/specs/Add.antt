@@ -13,7 +13,7 @@ use Rattle.refusal.specs.Limits.{maxTotal}
 use Rattle.refusal.specs.Refusal.{given, first, badCount, wrongLength, odd, firstFault}
 use Rattle.refusal.specs.Outcome.{Done, done}
 use Rattle.net.specs.Damage.{damaged}
-use Rattle.growth.specs.Work.{Growing, badWork, cleared}
+use Rattle.growth.specs.Work.{NetWithWork, badWork, cleared}
 
 -- a net with edges added
 unfoldable pub grown : Net → List Edge → Net
@@ -22,7 +22,7 @@ grown net es = record {
   weights = zipWith _+_ (net .weights) (weights (length (net .parents)) es);
 }
 
-unfoldable pub addRefusal : Growing → List ℕ → ℕ
+unfoldable pub addRefusal : NetWithWork → List ℕ → ℕ
 addRefusal g xs =
     let n : ℕ = length (g .net .parents) in
     first
@@ -35,5 +35,5 @@ addRefusal g xs =
     ∷ given (ltb maxTotal (total (g .net) + charges (edges xs))) 20
     ∷ [])
 
-unfoldable pub addOutcome : Growing → List ℕ → Done Growing
+unfoldable pub addOutcome : NetWithWork → List ℕ → Done NetWithWork
 addOutcome g xs = done (addRefusal g xs) g (record { net = grown (g .net) (edges xs); work = cleared (g .work) })

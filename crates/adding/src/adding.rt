@@ -3,7 +3,7 @@ use net::Net;
 use refusal::Answer;
 ghost use mathlib.Core.Path.{_≡_};
 ghost use Rattle.game.specs.Net.{net};
-ghost use Rattle.growth.specs.Work.{growing, workOf};
+ghost use Rattle.growth.specs.Work.{withWork, workOf};
 ghost use Rattle.refusal.specs.Answer.{verdict};
 ghost use Rattle.refusal.specs.Outcome.{ended};
 ghost use Rattle.adding.specs.Add.{addRefusal, addOutcome};
@@ -18,7 +18,7 @@ fn add_refusal(
     lower: &[u32],
 ) -> u32
     ensures { λ r. ⌜
-        r ≡ addRefusal (growing (net (now (parents .entry)) (now (weights .entry))) (workOf (now (ends .entry)) (now (jump .entry)) (now (lower .entry)))) (now (edges .entry)) ⌝ }
+        r ≡ addRefusal (withWork (net (now (parents .entry)) (now (weights .entry))) (workOf (now (ends .entry)) (now (jump .entry)) (now (lower .entry)))) (now (edges .entry)) ⌝ }
 {
     let n = parents.len();
     if refusal::bad_count(n) {
@@ -65,8 +65,8 @@ pub fn add(
     lower: &mut [u32],
 ) -> Answer
     ensures { λ r. ⌜
-        ended (verdict r) (growing (net (now (parents .exit)) (now (weights .exit))) (workOf (now (ends .exit)) (now (jump .exit)) (now (lower .exit))))
-        ≡ addOutcome (growing (net (now (parents .entry)) (now (weights .entry))) (workOf (now (ends .entry)) (now (jump .entry)) (now (lower .entry)))) (now (edges .entry)) ⌝ }
+        ended (verdict r) (withWork (net (now (parents .exit)) (now (weights .exit))) (workOf (now (ends .exit)) (now (jump .exit)) (now (lower .exit))))
+        ≡ addOutcome (withWork (net (now (parents .entry)) (now (weights .entry))) (workOf (now (ends .entry)) (now (jump .entry)) (now (lower .entry)))) (now (edges .entry)) ⌝ }
 {
     let code = add_refusal(parents, weights, edges, ends, jump, lower);
     if code != 0 {

@@ -23,7 +23,7 @@ use Rattle.refusal.specs.Refusal.{unless, firstFault}
 use Rattle.refusal.specs.Verdict.{isAccepted, judged}
 use Rattle.refusal.specs.Outcome.{Done, done, decided}
 use Rattle.refusal.proofs.Fault.{proper-faultless}
-use Rattle.growth.specs.Work.{Growing, growing, badWork}
+use Rattle.growth.specs.Work.{NetWithWork, withWork, badWork}
 use Rattle.starting.specs.Start.{startRefusal, startOutcome}
 use Rattle.adding.specs.Add.{grown, addRefusal, addOutcome}
 use Rattle.joining.specs.Join.{joined, joinRefusal, joinOutcome}
@@ -72,14 +72,14 @@ module _ {n : ℕ} (some : 0 < n) (few : n ≤ maxVertices) where
   lot-net : {es : List Edge} {lot : Lot} → Proper n es → charges es ≤ maxTotal → LotOf n es lot → grownLot lot ≡ done-with (netOf n es)
   unfolding grownLot addOutcome
   lot-net {es} {lot} proper light of =
-      ap (λ (s : Laid). after (s .accepted) (addOutcome (growing (s .net) (lot .adding)) (lot .list)) (λ (g : Growing). g .net)) (started-net (lot .tables) (of .parents) (of .weights))
-      ∙ after-accepted true (addRefusal (growing (netOf n []) (lot .adding)) (lot .list)) (growing (netOf n []) (lot .adding)) _ (λ (g : Growing). g .net) refl (add-passes addable)
+      ap (λ (s : Laid). after (s .accepted) (addOutcome (withWork (s .net) (lot .adding)) (lot .list)) (λ (g : NetWithWork). g .net)) (started-net (lot .tables) (of .parents) (of .weights))
+      ∙ after-accepted true (addRefusal (withWork (netOf n []) (lot .adding)) (lot .list)) (withWork (netOf n []) (lot .adding)) _ (λ (g : NetWithWork). g .net) refl (add-passes addable)
       ∙ ap done-with (ap (grown (netOf n [])) (of .reads) ∙ grown-net es (omega (arith, few)) (proper-nil n))
     where
       blank : length (netOf n [] .parents) ≡ n
       blank = vertices-of []
 
-      addable : Addable (growing (netOf n []) (lot .adding)) (lot .list)
+      addable : Addable (withWork (netOf n []) (lot .adding)) (lot .list)
       addable = record {
         net = valid-whole (net-valid some few (proper-nil n) (omega (arith, charges-count [])));
         work = room _ _ (lot .adding) (ap₂ (λ (a : ℕ) (fs : List Edge). badWork a (a + length fs) (lot .adding)) blank (of .reads) ∙ of .adding);
@@ -102,15 +102,15 @@ module _ {n : ℕ} (some : 0 < n) (few : n ≤ maxVertices) where
       let other = lot-net own (omega arith) of in
       let va = net-valid some few all (omega arith) in
       let vb = net-valid some few own (omega arith) in
-      let joinable : Joinable (growing (netOf n (together lists)) (lot .joining)) (netOf n es) = record {
+      let joinable : Joinable (withWork (netOf n (together lists)) (lot .joining)) (netOf n es) = record {
         net = valid-whole va;
         second = valid-whole vb;
         same = vertices-of es ∙ sym (vertices-of (together lists));
         work = room _ _ (lot .joining) (ap₂ (λ (a b : ℕ). badWork a (a + b) (lot .joining)) (vertices-of (together lists)) (vertices-of es) ∙ of .joining);
         light = omega (arith, total-of all, total-of own);
       } in (
-        ap₂ (λ (x y : Laid). after (x .accepted && y .accepted) (joinOutcome (growing (x .net) (lot .joining)) (y .net)) (λ (g : Growing). g .net)) one other
-            ∙ after-accepted true (joinRefusal (growing (netOf n (together lists)) (lot .joining)) (netOf n es)) (growing (netOf n (together lists)) (lot .joining)) _ (λ (g : Growing). g .net) refl (join-passes joinable)
+        ap₂ (λ (x y : Laid). after (x .accepted && y .accepted) (joinOutcome (withWork (x .net) (lot .joining)) (y .net)) (λ (g : NetWithWork). g .net)) one other
+            ∙ after-accepted true (joinRefusal (withWork (netOf n (together lists)) (lot .joining)) (netOf n es)) (withWork (netOf n (together lists)) (lot .joining)) _ (λ (g : NetWithWork). g .net) refl (join-passes joinable)
             ∙ ap done-with (joined-net es (omega (arith, few)) all own),
         proper-append all own,
       )

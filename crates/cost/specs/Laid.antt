@@ -16,11 +16,11 @@ use Rattle.game.specs.Net.{Net, charges}
 use Rattle.refusal.specs.Refusal.{odd}
 use Rattle.refusal.specs.Verdict.{isAccepted}
 use Rattle.refusal.specs.Outcome.{Done}
-use Rattle.growth.specs.Work.{Work, Growing, growing, badWork}
+use Rattle.growth.specs.Work.{Work, NetWithWork, withWork, badWork}
 use Rattle.starting.specs.Start.{startOutcome}
 use Rattle.adding.specs.Add.{addOutcome}
 use Rattle.joining.specs.Join.{joinOutcome}
-use Rattle.partition.specs.Divide.{Tables}
+use Rattle.partition.specs.Divide.{DivisionTables}
 use Rattle.cost.specs.Figures.{edgeBlock}
 
 -- the edges of block j
@@ -61,7 +61,7 @@ started tables = after true (startOutcome tables) (λ (net : Net). net)
 
 -- the net of a block: started, and its edges added
 unfoldable pub grownLot : Lot → Laid
-grownLot lot = let s : Laid = started (lot .tables) in after (s .accepted) (addOutcome (growing (s .net) (lot .adding)) (lot .list)) (λ (g : Growing). g .net)
+grownLot lot = let s : Laid = started (lot .tables) in after (s .accepted) (addOutcome (withWork (s .net) (lot .adding)) (lot .list)) (λ (g : NetWithWork). g .net)
 
 -- the nets of lots joined into a net that was started, the last lot first
 unfoldable pub laid : Net → List Lot → Laid
@@ -69,10 +69,10 @@ laid tables [] = started tables
 laid tables (lot ∷ lots) =
     let one : Laid = laid tables lots in
     let other : Laid = grownLot lot in
-    after (one .accepted && other .accepted) (joinOutcome (growing (one .net) (lot .joining)) (other .net)) (λ (g : Growing). g .net)
+    after (one .accepted && other .accepted) (joinOutcome (withWork (one .net) (lot .joining)) (other .net)) (λ (g : NetWithWork). g .net)
 
 -- The blocks, laid together again in any order, are the net; and each block's load is what its edges are charged.
-pub record Together (of : Net) (es : List Edge) (k : ℕ) (division : Tables) : Type 0 where
+pub record Together (of : Net) (es : List Edge) (k : ℕ) (division : DivisionTables) : Type 0 where
   pub net : (js : List ℕ) → List·Permᴰ js (tabulate k (λ j. j)) → (tables : Net) → length (tables .parents) ≡ length (of .parents) → length (tables .weights) ≡ length (of .parents)
       → (lots : List Lot) → Lots (length (of .parents)) (map (edgesOf (division .block) es) js) lots
       → laid tables lots ≡ record { accepted = true; net = of }

@@ -5,14 +5,14 @@
 use report::ReportAnswer;
 ghost use mathlib.Core.Path.{_≡_};
 ghost use Rattle.game.specs.Net.{net};
-ghost use Rattle.growth.specs.Work.{growing, workOf};
+ghost use Rattle.growth.specs.Work.{withWork, workOf};
 ghost use Rattle.starting.specs.Start.{startOutcome};
 ghost use Rattle.adding.specs.Add.{addOutcome};
 ghost use Rattle.joining.specs.Join.{joinOutcome};
 ghost use Rattle.saving.specs.Save.{saveOutcome};
 ghost use Rattle.reading.specs.Read.{readOutcome};
-ghost use Rattle.partition.specs.Divide.{tables as divisionOf, divideOutcome};
-ghost use Rattle.relabel.specs.Relabel.{tables, relabelOutcome};
+ghost use Rattle.partition.specs.Divide.{divisionOf, divideOutcome};
+ghost use Rattle.relabel.specs.Relabel.{relabelTables, relabelOutcome};
 ghost use Rattle.writing.specs.Written.{written};
 ghost use Rattle.report.specs.Report.{lent, reportOutcome};
 ghost use Rattle.cost.specs.Figures.{totals};
@@ -26,8 +26,8 @@ pub extern "C" fn niqastul_relabel(
     inverse: &mut [u32],
 ) -> u32
     ensures { λ r. ⌜
-        returned r (tables (now (out .exit)) (now (inverse .exit)))
-        ≡ handed (relabelOutcome (now (order .entry)) (now (edges .entry)) (tables (now (out .entry)) (now (inverse .entry)))) ⌝ }
+        returned r (relabelTables (now (out .exit)) (now (inverse .exit)))
+        ≡ handed (relabelOutcome (now (order .entry)) (now (edges .entry)) (relabelTables (now (out .entry)) (now (inverse .entry)))) ⌝ }
 {
     refusal::code(relabel::relabel(order, edges, out, inverse))
 }
@@ -51,8 +51,8 @@ pub extern "C" fn niqastul_add(
     lower: &mut [u32],
 ) -> u32
     ensures { λ r. ⌜
-        returned r (growing (net (now (parents .exit)) (now (weights .exit))) (workOf (now (ends .exit)) (now (jump .exit)) (now (lower .exit))))
-        ≡ handed (addOutcome (growing (net (now (parents .entry)) (now (weights .entry))) (workOf (now (ends .entry)) (now (jump .entry)) (now (lower .entry)))) (now (edges .entry))) ⌝ }
+        returned r (withWork (net (now (parents .exit)) (now (weights .exit))) (workOf (now (ends .exit)) (now (jump .exit)) (now (lower .exit))))
+        ≡ handed (addOutcome (withWork (net (now (parents .entry)) (now (weights .entry))) (workOf (now (ends .entry)) (now (jump .entry)) (now (lower .entry)))) (now (edges .entry))) ⌝ }
 {
     refusal::code(forest::add(parents, weights, edges, ends, jump, lower))
 }
@@ -68,8 +68,8 @@ pub extern "C" fn niqastul_join(
     lower: &mut [u32],
 ) -> u32
     ensures { λ r. ⌜
-        returned r (growing (net (now (parents .exit)) (now (weights .exit))) (workOf (now (ends .exit)) (now (jump .exit)) (now (lower .exit))))
-        ≡ handed (joinOutcome (growing (net (now (parents .entry)) (now (weights .entry))) (workOf (now (ends .entry)) (now (jump .entry)) (now (lower .entry)))) (net (now («other_parents» .entry)) (now («other_weights» .entry)))) ⌝ }
+        returned r (withWork (net (now (parents .exit)) (now (weights .exit))) (workOf (now (ends .exit)) (now (jump .exit)) (now (lower .exit))))
+        ≡ handed (joinOutcome (withWork (net (now (parents .entry)) (now (weights .entry))) (workOf (now (ends .entry)) (now (jump .entry)) (now (lower .entry)))) (net (now («other_parents» .entry)) (now («other_weights» .entry)))) ⌝ }
 {
     refusal::code(forest::join(
         parents,

@@ -16,7 +16,7 @@ use Rattle.refusal.specs.Refusal.{firstFault}
 use Rattle.refusal.specs.Verdict.{Verdict}
 use Rattle.refusal.specs.Outcome.{Outcome, ended, decided}
 use Rattle.refusal.proofs.First.{even-list, unless-accepted}
-use Rattle.growth.specs.Work.{Work, workOf, growing, cleared}
+use Rattle.growth.specs.Work.{Work, workOf, withWork, cleared}
 use Rattle.starting.specs.Start.{startRefusal, startOutcome}
 use Rattle.adding.specs.Add.{addOutcome}
 use Rattle.adding.proofs.Accepted.{Addable}
@@ -50,7 +50,7 @@ unfolding netOf
 blank-total n = weights-charges (proper-nil n) ∙ charges-count []
 
 -- the tables of no edge take the list
-blank-addable : {xs : List ℕ} {lent : Net} {work : Work} → FirstList xs lent work → Addable (growing (netOf (length (lent .parents)) []) work) xs
+blank-addable : {xs : List ℕ} {lent : Net} {work : Work} → FirstList xs lent work → Addable (withWork (netOf (length (lent .parents)) []) work) xs
 blank-addable {xs} {lent} {work} c =
     let n = length (lent .parents) in
     let v = net-valid (c .some) (c .vertices) (proper-nil n) (omega (arith, charges-count [])) in
@@ -71,9 +71,9 @@ module _ {p w xs e j l : List ℕ} (c : FirstList xs (net p w) (workOf e j l)) w
       accepted-tables (startRefusal (net p w)) tt (net p w) (netOf (length p) []) o (start-passes (record { some = c .some; few = c .vertices; long = c .weights }))
 
   pub first-net : {m m′ : Verdict (Unit {0})} {p′ w′ p″ w″ e″ j″ l″ : List ℕ} → ended m (net p′ w′) ≡ startOutcome (net p w)
-      → ended m′ (growing (net p″ w″) (workOf e″ j″ l″)) ≡ addOutcome (growing (net p′ w′) (workOf e j l)) xs
-      → growing (net p″ w″) (workOf e″ j″ l″) ≡ growing (netOf (length p) (edges xs)) (cleared (workOf e j l))
+      → ended m′ (withWork (net p″ w″) (workOf e″ j″ l″)) ≡ addOutcome (withWork (net p′ w′) (workOf e j l)) xs
+      → withWork (net p″ w″) (workOf e″ j″ l″) ≡ withWork (netOf (length p) (edges xs)) (cleared (workOf e j l))
   unfolding addOutcome
   first-net s a =
-      accepted-tables _ _ _ _ (a ∙ ap (λ (of : Net). addOutcome (growing of (workOf e j l)) xs) (started s)) (add-passes (blank-addable c))
-      ∙ ap (λ (of : Net). growing of (cleared (workOf e j l))) (grown-net (edges xs) (omega (arith, c .vertices)) (proper-nil (length p)))
+      accepted-tables _ _ _ _ (a ∙ ap (λ (of : Net). addOutcome (withWork of (workOf e j l)) xs) (started s)) (add-passes (blank-addable c))
+      ∙ ap (λ (of : Net). withWork of (cleared (workOf e j l))) (grown-net (edges xs) (omega (arith, c .vertices)) (proper-nil (length p)))

@@ -15,7 +15,7 @@ use Rattle.refusal.specs.Limits.{maxVertices, maxTotal}
 use Rattle.refusal.specs.Refusal.{badCount}
 use Rattle.refusal.proofs.First.{pass, first-pass, first-end, right-length}
 use Rattle.net.specs.Damage.{damaged, damagedBy}
-use Rattle.growth.specs.Work.{Work, Growing, badWork}
+use Rattle.growth.specs.Work.{Work, NetWithWork, badWork}
 use Rattle.starting.specs.Start.{startRefusal}
 use Rattle.adding.specs.Add.{addRefusal}
 use Rattle.joining.specs.Join.{joinRefusal}
@@ -41,7 +41,7 @@ pub start-passes : {of : Net} → Startable of → startRefusal of ≡ 0
 unfolding startRefusal
 start-passes s = pass 1 _ (count-right _ (s .some) (s .few)) ∙ pass 2 _ (right-length _ _ (s .long)) ∙ first-end
 
-pub add-passes : {g : Growing} {xs : List ℕ} → Addable g xs → addRefusal g xs ≡ 0
+pub add-passes : {g : NetWithWork} {xs : List ℕ} → Addable g xs → addRefusal g xs ≡ 0
 unfolding addRefusal
 add-passes {g} {xs} a =
     pass 1 _ (count-right _ (a .net .some) (a .net .few))
@@ -53,7 +53,7 @@ add-passes {g} {xs} a =
     ∙ pass 20 _ (le-ltb maxTotal (total (g .net) + charges (edges xs)) (a .light))
     ∙ first-end
 
-pub join-passes : {g : Growing} {other : Net} → Joinable g other → joinRefusal g other ≡ 0
+pub join-passes : {g : NetWithWork} {other : Net} → Joinable g other → joinRefusal g other ≡ 0
 unfolding joinRefusal
 join-passes {g} {other} a =
     pass 1 _ (count-right _ (a .net .some) (a .net .few))

@@ -26,7 +26,7 @@ use Rattle.refusal.proofs.Never.{end-not, other-not, false-not, fault-not, verd
 use Rattle.refusal.proofs.Fault.{faultless-proper}
 use Rattle.net.specs.Damage.{damaged}
 use Rattle.bucket.proofs.Tallied.{zip-length}
-use Rattle.growth.specs.Work.{Growing}
+use Rattle.growth.specs.Work.{NetWithWork}
 use Rattle.starting.specs.Start.{startRefusal, startOutcome}
 use Rattle.adding.specs.Add.{grown, addRefusal, addOutcome}
 use Rattle.joining.specs.Join.{joined, joinRefusal, joinOutcome}
@@ -68,7 +68,7 @@ start-valid of a =
     let s = startable of z in
     subst Valid (sym (unless-accepted (startRefusal of) of _ z)) (net-valid (s .some) (s .few) (proper-nil (length (of .parents))) (omega (arith, charges-count [])))
 
-pub add-valid : (g : Growing) (xs : List ℕ) → addOutcome g xs .verdict ≡ accepted tt → Valid (addOutcome g xs .tables .net)
+pub add-valid : (g : NetWithWork) (xs : List ℕ) → addOutcome g xs .verdict ≡ accepted tt → Valid (addOutcome g xs .tables .net)
 unfolding addOutcome decided grown
 add-valid g xs a =
     let z = accepted-none (addRefusal g xs) _ a in
@@ -76,7 +76,7 @@ add-valid g xs a =
     let n = length (g .net .parents) in
     let proper = faultless-proper n (edges xs) (k .faultless) in
     let same : length (g .net .weights) ≡ length (weights n (edges xs)) = k .net .long ∙ sym (weights-length n (edges xs)) in
-    subst (λ (t : Growing). Valid (t .net)) (sym (unless-accepted (addRefusal g xs) g _ z))
+    subst (λ (t : NetWithWork). Valid (t .net)) (sym (unless-accepted (addRefusal g xs) g _ z))
     (record {
       some = omega (arith, forest-length n (links (g .net .parents) ++ edges xs), k .net .some);
       few = omega (arith, forest-length n (links (g .net .parents) ++ edges xs), k .net .few);
@@ -85,14 +85,14 @@ add-valid g xs a =
       light = omega (arith, sum-zip (g .net .weights) (weights n (edges xs)) same, weights-charges proper, k .light);
     })
 
-pub join-valid : (g : Growing) (other : Net) → joinOutcome g other .verdict ≡ accepted tt → Valid (joinOutcome g other .tables .net)
+pub join-valid : (g : NetWithWork) (other : Net) → joinOutcome g other .verdict ≡ accepted tt → Valid (joinOutcome g other .tables .net)
 unfolding joinOutcome decided joined
 join-valid g other a =
     let z = accepted-none (joinRefusal g other) _ a in
     let k = joinable g other z in
     let n = length (g .net .parents) in
     let same : length (g .net .weights) ≡ length (other .weights) = k .net .long ∙ sym (k .same) ∙ sym (k .second .long) in
-    subst (λ (t : Growing). Valid (t .net)) (sym (unless-accepted (joinRefusal g other) g _ z))
+    subst (λ (t : NetWithWork). Valid (t .net)) (sym (unless-accepted (joinRefusal g other) g _ z))
     (record {
       some = omega (arith, forest-length n (links (g .net .parents) ++ links (other .parents)), k .net .some);
       few = omega (arith, forest-length n (links (g .net .parents) ++ links (other .parents)), k .net .few);
@@ -102,14 +102,14 @@ join-valid g other a =
     })
 
 -- a valid net is not refused with 30
-pub add-not-30 : (g : Growing) (xs : List ℕ) → Valid (g .net) → addOutcome g xs .verdict ≡ refused 30 → ⊥
+pub add-not-30 : (g : NetWithWork) (xs : List ℕ) → Valid (g .net) → addOutcome g xs .verdict ≡ refused 30 → ⊥
 unfolding addOutcome decided addRefusal
 add-not-30 g xs v =
     verdict-not _ _ 30
     (other-not 29 _ 1 _ (omega arith) (other-not 29 _ 2 _ (omega arith) (other-not 29 _ 2 _ (omega arith) (other-not 29 _ 2 _ (omega arith)
     (false-not 29 _ 30 _ (valid-undamaged v) (fault-not 29 _ _ _ (omega arith) (other-not 29 _ 20 _ (omega arith) (end-not 29))))))))
 
-pub join-not-30 : (g : Growing) (other : Net) → Valid (g .net) → Valid other → joinOutcome g other .verdict ≡ refused 30 → ⊥
+pub join-not-30 : (g : NetWithWork) (other : Net) → Valid (g .net) → Valid other → joinOutcome g other .verdict ≡ refused 30 → ⊥
 unfolding joinOutcome decided joinRefusal
 join-not-30 g other v u =
     verdict-not _ _ 30

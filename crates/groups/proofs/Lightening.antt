@@ -12,7 +12,7 @@ use Rattle.game.specs.Game.{absent}
 use Rattle.refusal.specs.Limits.{maxTotal}
 use Rattle.groups.specs.Cut.{carries}
 use Rattle.game.specs.Table.{filtered}
-use Rattle.groups.specs.Steps.{Chain, end, node, hanging, classOf, leastOf, floorOf, Loaded, Candidates, Due, Trimmed, Listed, Children, classIn, Filed, Lightened}
+use Rattle.groups.specs.Steps.{Chain, end, node, hanging, classOf, leastOf, floorOf, Loaded, Candidates, Due, Trimmed, Listed, Children, classIn, InClasses, Lightened}
 use Rattle.groups.proofs.Lists.{filtered-in, in-filtered, rising-filtered, sum-nought, sum-within, sum-entry-in}
 use Rattle.groups.proofs.Trimming.{trim-done}
 use Rattle.groups.proofs.Carried.{entry, below-in, below-rising}
@@ -51,7 +51,7 @@ module _ {x weight uncut B : ℕ} {was carried link₀ : List ℕ} (b : Loaded x
       }
 
   -- the children, filed into lists by class
-  module _ {first : ℕ} {next heads : List ℕ} (n : Children x first was link₀) (f : Filed (classIn heads carried) [] first was next heads) where
+  module _ {first : ℕ} {next heads : List ℕ} (n : Children x first was link₀) (f : InClasses (classIn heads carried) [] first was next heads) where
     abbrev last : ℕ
     last = length heads - 1
 

@@ -144,7 +144,7 @@ classIn heads carried y = classOf (length heads - 1) (getD carried y 0)
 
 -- What is filed of a linked list, all but `rest`: the ranks by rising rank, each in the list of its class. The links of others are as
 -- they were.
-pub record Filed (class : ℕ → ℕ) (rest : List ℕ) (first : ℕ) (was next heads : List ℕ) : Type 0 where
+pub record InClasses (class : ℕ → ℕ) (rest : List ℕ) (first : ℕ) (was next heads : List ℕ) : Type 0 where
   pub listed : Listed first was
   pub ranks : List ℕ
   pub rising : Rising 0 ranks

@@ -21,7 +21,7 @@ use Rattle.game.proofs.Links.{link-of, link-inv, link-up, links-proper}
 use Rattle.game.proofs.Forest.{forest-unique}
 use Rattle.bucket.specs.Filed.{lowerEnds}
 use Rattle.bucket.proofs.LowerEnds.{lower-ends-linked, linked-lower-ends}
-use Rattle.growth.specs.Growth.{Above, Known, known, passed, Child, Standing, Kept, Climbed, Climbs, Offers, Gathered, Gathers, Raised, newParents}
+use Rattle.growth.specs.Growth.{Above, Known, known, passed, Child, Standing, Kept, Climbed, Connects, Offers, Gathered, Gathers, Raised, newParents}
 
 -- walks in the forest stay walks while parents are kept
 kept-conn : {was p : List ℕ} → length was ≡ length p → Kept was p → {t a b : ℕ} → Conn (links was) t a b → Conn (links p) t a b
@@ -52,10 +52,10 @@ gather-step {y = y} {k = k} {bucket = bucket} {p = p} {p′ = p′} g c = record
 }
 
 -- the same by what a climb promises
-pub gather-climb : {n y k u : ℕ} {E : List Edge} {bucket was p jump p′ jump′ : List ℕ} → length p ≡ n → u ≡ getD bucket k 0 → Climbs u y p jump p′ jump′ → (getD bucket k 0 < y) × Conn E y (getD bucket k 0) y → Gathered n E y k bucket was (newParents p jump) jump → Gathered n E y (k + 1) bucket was (newParents p′ jump′) jump′
+pub gather-climb : {n y k u : ℕ} {E : List Edge} {bucket was p jump p′ jump′ : List ℕ} → length p ≡ n → u ≡ getD bucket k 0 → Connects u y p jump p′ jump′ → (getD bucket k 0 < y) × Conn E y (getD bucket k 0) y → Gathered n E y k bucket was (newParents p jump) jump → Gathered n E y (k + 1) bucket was (newParents p′ jump′) jump′
 gather-climb {y = y} {k = k} {E = E} {bucket = bucket} {was = was} {p = p} {jump = jump} {p′ = p′} {jump′ = jump′} e q c o =
     subst (λ (m : ℕ). Gathered m E y k bucket was (newParents p jump) jump → Gathered m E y (k + 1) bucket was (newParents p′ jump′) jump′) e
-    (λ g. gather-step g (subst (λ (x : ℕ). Climbs x y p jump p′ jump′) q c .climbed E (g .standing) (o .0) (o .1)))
+    (λ g. gather-step g (subst (λ (x : ℕ). Connects x y p jump p′ jump′) q c .climbed E (g .standing) (o .0) (o .1)))
 
 -- as much as there is
 pub gather-end : {n y to k : ℕ} {E : List Edge} {bucket was p jump : List ℕ} → to ≤ k → Gathered n E y k bucket was p jump → Gathered n E y to bucket was p jump

@@ -84,7 +84,7 @@ pub record Untouched (p jump p′ jump′ : List ℕ) : Type 0 where
   pub each : (z : ℕ) → getD jump′ z absent ≡ absent → (getD jump z absent ≡ absent) × (getD p′ z absent ≡ getD p z absent)
 
 -- what a climb from u for y promises, for whatever graph the tables stand for
-pub record Climbs (u y : ℕ) (p jump p′ jump′ : List ℕ) : Type 0 where
+pub record Connects (u y : ℕ) (p jump p′ jump′ : List ℕ) : Type 0 where
   pub upward : Upward (length p) jump′
   pub untouched : Untouched p jump p′ jump′
   pub climbed : (E : List Edge) → Standing (length p) E y 0 (newParents p jump) jump → u < y → Conn E y u y

@@ -15,15 +15,15 @@ pub record Work : Type 0 where
   pub lower : List ℕ
 
 -- the tables that a call writes: its net and the work tables
-pub record Growing : Type 0 where
+pub record NetWithWork : Type 0 where
   pub net : Net
   pub work : Work
 
 abbrev pub workOf : (ends jump lower : List ℕ) → Work
 workOf ends jump lower = record { ends = ends; jump = jump; lower = lower }
 
-abbrev pub growing : Net → Work → Growing
-growing net work = record { net = net; work = work }
+abbrev pub withWork : Net → Work → NetWithWork
+withWork net work = record { net = net; work = work }
 
 -- refusal 2 of the work tables, for n vertices and m edges and links in all
 unfoldable pub badWork : ℕ → ℕ → Work → Bool

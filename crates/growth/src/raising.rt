@@ -8,13 +8,13 @@ ghost use Prim.Native.Nat.{ℕ, _+_, _^_, _<_, _≤_};
 ghost use lib.ListN.{length, getD, take, replicate};
 ghost use Rattle.refusal.specs.Limits.{maxVertices};
 ghost use Rattle.growth.specs.Work.{workOf, cleared};
-ghost use Rattle.growth.specs.Growth.{Upward, Climbs, Weighs, Light, Gathers, Blank, Raises, Growable, Grows, GrowsKept, Regrows};
+ghost use Rattle.growth.specs.Growth.{Upward, Connects, Weighs, Light, Gathers, Blank, Raises, Growable, Grows, GrowsKept, Regrows};
 
 // Makes the root of u's tree a child of y, and every vertex on the way jump to y. A vertex jumps higher than it stands, so
 // the climb ends.
 fn climb(u: u32, y: u32, parents: &mut [u32], jump: &mut [u32])
     requires { ⌜ (y < length (now parents)) × (length (now parents) ≤ maxVertices) × Upward (length (now parents)) (now jump) ⌝ }
-    ensures { λ _. ⌜ Climbs u y (now (parents .entry)) (now (jump .entry)) (now (parents .exit)) (now (jump .exit)) ⌝ }
+    ensures { λ _. ⌜ Connects u y (now (parents .entry)) (now (jump .entry)) (now (parents .exit)) (now (jump .exit)) ⌝ }
 {
     let mut w = u;
     while w < y {

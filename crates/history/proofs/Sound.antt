@@ -7,7 +7,7 @@ use Prim.Native.Nat.{ℕ}
 use native.Mathlib.Omega.{arith}
 use Rattle.game.specs.Net.{Net}
 use Rattle.refusal.specs.Verdict.{Verdict, accepted, refused, isAccepted}
-use Rattle.growth.specs.Work.{Growing, growing}
+use Rattle.growth.specs.Work.{NetWithWork, withWork}
 use Rattle.starting.specs.Start.{startOutcome}
 use Rattle.adding.specs.Add.{addOutcome}
 use Rattle.joining.specs.Join.{joinOutcome}
@@ -24,8 +24,8 @@ use Rattle.history.proofs.Update.{update-here}
 pub valid-never-30 : {of : Net} → Valid of → Never30 of
 valid-never-30 {of} v = record {
   valid = v;
-  add = λ work xs. add-not-30 (growing of work) xs v;
-  join = λ work other u. join-not-30 (growing of work) other v u;
+  add = λ work xs. add-not-30 (withWork of work) xs v;
+  join = λ work other u. join-not-30 (withWork of work) other v u;
   joined = λ g u. join-not-30 g of u v;
   save = λ bytes. save-not-30 of bytes v;
   divide = λ B k tables. divide-not-30 of B k tables v;
@@ -48,8 +48,8 @@ nothing e = let z : _≡_ {A = ℕ} 0 1 = cc in omega arith
 written-valid : (w : World) (c : Call) (j : ℕ) → written c ≡ some j → step w c .accepted ≡ true → Valid (step w c .world .nets j)
 unfolding written step stepped
 written-valid w (start i) j e a = put (w .nets) i j _ e (start-valid (w .nets i) (said _ a))
-written-valid w (add i xs work) j e a = put (w .nets) i j _ e (add-valid (growing (w .nets i) work) xs (said _ a))
-written-valid w (join i k different work) j e a = put (w .nets) i j _ e (join-valid (growing (w .nets i) work) (w .nets k) (said _ a))
+written-valid w (add i xs work) j e a = put (w .nets) i j _ e (add-valid (withWork (w .nets i) work) xs (said _ a))
+written-valid w (join i k different work) j e a = put (w .nets) i j _ e (join-valid (withWork (w .nets i) work) (w .nets k) (said _ a))
 written-valid w (save i f) j e a = absurd (nothing e)
 written-valid w (read i f) j e a = put (w .nets) i j _ e (read-valid (w .nets i) (w .files f) (said _ a))
 written-valid w (relabel order xs tables) j e a = absurd (nothing e)

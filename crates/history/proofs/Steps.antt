@@ -22,7 +22,7 @@ use Rattle.refusal.specs.Outcome.{decided}
 use Rattle.refusal.proofs.First.{unless-part}
 use Rattle.refusal.proofs.Fault.{faultless-proper}
 use Rattle.net.specs.Damage.{damaged}
-use Rattle.growth.specs.Work.{Work, Growing, growing, cleared}
+use Rattle.growth.specs.Work.{Work, NetWithWork, withWork, cleared}
 use Rattle.starting.specs.Start.{startRefusal, startOutcome}
 use Rattle.adding.specs.Add.{grown, addRefusal, addOutcome}
 use Rattle.joining.specs.Join.{joined, joinRefusal, joinOutcome}
@@ -127,7 +127,7 @@ started-kept net z =
     net-recorded _ (of-net (record { some = s .some; few = s .few }) (proper-nil (length (net .parents))))
 
 -- adding
-added-kept : (net : Net) (noted : Option NetRecord) (xs : List ℕ) (work : Work) → NetKept net noted → addRefusal (growing net work) xs ≡ 0 → NetKept (grown net (edges xs)) (behind noted (some (record { edges = edges xs })))
+added-kept : (net : Net) (noted : Option NetRecord) (xs : List ℕ) (work : Work) → NetKept net noted → addRefusal (withWork net work) xs ≡ 0 → NetKept (grown net (edges xs)) (behind noted (some (record { edges = edges xs })))
 added-kept net noted xs work v z = both noted (some new) go
   where
     new : NetRecord
@@ -136,7 +136,7 @@ added-kept net noted xs work v z = both noted (some new) go
     go : (r s : NetRecord) → noted ≡ some r → some new ≡ some s → NetOf (grown net (edges xs)) (r .edges ++ s .edges)
     go r s e f =
         let g = v .kept r e in
-        let a = addable (growing net work) xs z in
+        let a = addable (withWork net work) xs z in
         let same : new ≡ s = cc in
         let proper : Proper (g .vertices) (edges xs) = subst (λ (n : ℕ). Proper n (edges xs)) (parents-length g) (faultless-proper (length (net .parents)) (edges xs) (a .faultless)) in
         subst (λ (t : NetRecord). NetOf (grown net (edges xs)) (r .edges ++ t .edges)) same
@@ -148,14 +148,14 @@ added-kept net noted xs work v z = both noted (some new) go
         })
 
 -- joining
-joined-kept : (net other : Net) (noted second : Option NetRecord) (work : Work) → NetKept net noted → NetKept other second → joinRefusal (growing net work) other ≡ 0 → NetKept (joined net other) (behind noted second)
+joined-kept : (net other : Net) (noted second : Option NetRecord) (work : Work) → NetKept net noted → NetKept other second → joinRefusal (withWork net work) other ≡ 0 → NetKept (joined net other) (behind noted second)
 joined-kept net other noted second work v u z = both noted second go
   where
     go : (r s : NetRecord) → noted ≡ some r → second ≡ some s → NetOf (joined net other) (r .edges ++ s .edges)
     go r s e f =
         let g = v .kept r e in
         let h = u .kept s f in
-        let a = joinable (growing net work) other z in
+        let a = joinable (withWork net work) other z in
         let same : h .vertices ≡ g .vertices = sym (parents-length h) ∙ a .same ∙ parents-length g in
         let proper : Proper (g .vertices) (s .edges) = subst (λ (n : ℕ). Proper n (s .edges)) same (h .proper) in
         record {
@@ -211,14 +211,14 @@ unfolding step stepped entry decided enter startOutcome addOutcome joinOutcome s
 step-keeps {w} {b} (start i) v =
     net-written v i (startRefusal (w .nets i)) (netOf (length (w .nets i .parents)) []) (some (record { edges = [] })) (started i) refl (started-kept (w .nets i))
 step-keeps {w} {b} (add i xs work) v =
-    subst (λ (x : Net). Kept (withNet w i x) (note b (added i xs) (isAccepted (judged (addRefusal (growing (w .nets i) work) xs) (tt {0})))))
-    (sym (unless-part (λ (g : Growing). g .net) (addRefusal (growing (w .nets i) work) xs) (growing (w .nets i) work) (growing (grown (w .nets i) (edges xs)) (cleared work))))
-    (net-written v i (addRefusal (growing (w .nets i) work) xs) (grown (w .nets i) (edges xs)) (behind (b .nets i) (some (record { edges = edges xs }))) (added i xs) refl
+    subst (λ (x : Net). Kept (withNet w i x) (note b (added i xs) (isAccepted (judged (addRefusal (withWork (w .nets i) work) xs) (tt {0})))))
+    (sym (unless-part (λ (g : NetWithWork). g .net) (addRefusal (withWork (w .nets i) work) xs) (withWork (w .nets i) work) (withWork (grown (w .nets i) (edges xs)) (cleared work))))
+    (net-written v i (addRefusal (withWork (w .nets i) work) xs) (grown (w .nets i) (edges xs)) (behind (b .nets i) (some (record { edges = edges xs }))) (added i xs) refl
     (added-kept (w .nets i) (b .nets i) xs work (v .nets i)))
 step-keeps {w} {b} (join i j different work) v =
-    subst (λ (x : Net). Kept (withNet w i x) (note b (entered i j) (isAccepted (judged (joinRefusal (growing (w .nets i) work) (w .nets j)) (tt {0})))))
-    (sym (unless-part (λ (g : Growing). g .net) (joinRefusal (growing (w .nets i) work) (w .nets j)) (growing (w .nets i) work) (growing (joined (w .nets i) (w .nets j)) (cleared work))))
-    (net-written v i (joinRefusal (growing (w .nets i) work) (w .nets j)) (joined (w .nets i) (w .nets j)) (behind (b .nets i) (b .nets j)) (entered i j) refl
+    subst (λ (x : Net). Kept (withNet w i x) (note b (entered i j) (isAccepted (judged (joinRefusal (withWork (w .nets i) work) (w .nets j)) (tt {0})))))
+    (sym (unless-part (λ (g : NetWithWork). g .net) (joinRefusal (withWork (w .nets i) work) (w .nets j)) (withWork (w .nets i) work) (withWork (joined (w .nets i) (w .nets j)) (cleared work))))
+    (net-written v i (joinRefusal (withWork (w .nets i) work) (w .nets j)) (joined (w .nets i) (w .nets j)) (behind (b .nets i) (b .nets j)) (entered i j) refl
     (joined-kept (w .nets i) (w .nets j) (b .nets i) (b .nets j) work (v .nets i) (v .nets j)))
 step-keeps {w} {b} (save i f) v =
     file-written v f (saveRefusal (w .nets i) (length (w .files f))) (linkFile (w .nets i)) (savedRecord (b .nets i)) (saved i f) refl

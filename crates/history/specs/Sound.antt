@@ -7,12 +7,12 @@ use mathlib.Core.Option.{Option, none, some}
 use Prim.Native.Nat.{ℕ}
 use Rattle.game.specs.Net.{Net}
 use Rattle.refusal.specs.Verdict.{refused}
-use Rattle.growth.specs.Work.{Work, Growing, growing}
+use Rattle.growth.specs.Work.{Work, NetWithWork, withWork}
 use Rattle.adding.specs.Add.{addOutcome}
 use Rattle.joining.specs.Join.{joinOutcome}
 use Rattle.forest.specs.Promise.{Valid}
 use Rattle.saving.specs.Save.{saveOutcome}
-use Rattle.partition.specs.Divide.{Tables, divideOutcome}
+use Rattle.partition.specs.Divide.{DivisionTables, divideOutcome}
 use Rattle.report.specs.Report.{Lent, reportOutcome}
 use Rattle.history.specs.World.{Call, start, add, join, save, read, relabel, divide, report}
 
@@ -30,9 +30,9 @@ written (report i B k xs tables) = none
 -- whatever else a call is lent
 pub record Never30 (of : Net) : Type 0 where
   pub valid : Valid of
-  pub add : (work : Work) (xs : List ℕ) → addOutcome (growing of work) xs .verdict ≡ refused 30 → ⊥
-  pub join : (work : Work) (other : Net) → Valid other → joinOutcome (growing of work) other .verdict ≡ refused 30 → ⊥
-  pub joined : (g : Growing) → Valid (g .net) → joinOutcome g of .verdict ≡ refused 30 → ⊥
+  pub add : (work : Work) (xs : List ℕ) → addOutcome (withWork of work) xs .verdict ≡ refused 30 → ⊥
+  pub join : (work : Work) (other : Net) → Valid other → joinOutcome (withWork of work) other .verdict ≡ refused 30 → ⊥
+  pub joined : (g : NetWithWork) → Valid (g .net) → joinOutcome g of .verdict ≡ refused 30 → ⊥
   pub save : (bytes : List ℕ) → saveOutcome of bytes .verdict ≡ refused 30 → ⊥
-  pub divide : (B k : ℕ) (tables : Tables) → divideOutcome of B k tables .verdict ≡ refused 30 → ⊥
+  pub divide : (B k : ℕ) (tables : DivisionTables) → divideOutcome of B k tables .verdict ≡ refused 30 → ⊥
   pub report : (B k : ℕ) (xs : List ℕ) (tables : Lent) → reportOutcome of B k xs tables .verdict ≡ refused 30 → ⊥

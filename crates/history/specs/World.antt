@@ -14,14 +14,14 @@ use lib.Dec.{eqb}
 use Rattle.game.specs.Net.{Net}
 use Rattle.refusal.specs.Verdict.{isAccepted}
 use Rattle.refusal.specs.Outcome.{Outcome}
-use Rattle.growth.specs.Work.{Work, Growing, growing}
+use Rattle.growth.specs.Work.{Work, NetWithWork, withWork}
 use Rattle.starting.specs.Start.{startOutcome}
 use Rattle.adding.specs.Add.{addOutcome}
 use Rattle.joining.specs.Join.{joinOutcome}
 use Rattle.saving.specs.Save.{saveOutcome}
 use Rattle.reading.specs.Read.{readOutcome}
-use Rattle.relabel.specs.Relabel.{Tables, relabelOutcome}
-use Rattle.partition.specs.Divide.{Tables as Division, divideOutcome}
+use Rattle.relabel.specs.Relabel.{RelabelTables, relabelOutcome}
+use Rattle.partition.specs.Divide.{DivisionTables, divideOutcome}
 use Rattle.report.specs.Report.{Lent, reportOutcome}
 
 -- nets and files by number; a file is its bytes
@@ -37,8 +37,8 @@ pub data Call : Type 0 where
   join : (net other : ℕ) → (net ≡ other → ⊥) → (work : Work) → Call
   save : (net file : ℕ) → Call
   read : (net file : ℕ) → Call
-  relabel : (order edges : List ℕ) (tables : Tables) → Call
-  divide : (net B k : ℕ) (tables : Division) → Call
+  relabel : (order edges : List ℕ) (tables : RelabelTables) → Call
+  divide : (net B k : ℕ) (tables : DivisionTables) → Call
   report : (net B k : ℕ) (edges : List ℕ) (tables : Lent) → Call
 
 -- f with the value at i put in the place of the old one
@@ -62,10 +62,10 @@ stepped o world = record { accepted = isAccepted (o .verdict); world = world (o 
 
 unfoldable pub step : World → Call → Step
 step w (start i) = stepped (startOutcome (w .nets i)) (withNet w i)
-step w (add i xs work) = stepped (addOutcome (growing (w .nets i) work) xs) (λ (g : Growing). withNet w i (g .net))
-step w (join i j different work) = stepped (joinOutcome (growing (w .nets i) work) (w .nets j)) (λ (g : Growing). withNet w i (g .net))
+step w (add i xs work) = stepped (addOutcome (withWork (w .nets i) work) xs) (λ (g : NetWithWork). withNet w i (g .net))
+step w (join i j different work) = stepped (joinOutcome (withWork (w .nets i) work) (w .nets j)) (λ (g : NetWithWork). withNet w i (g .net))
 step w (save i f) = stepped (saveOutcome (w .nets i) (w .files f)) (withFile w f)
 step w (read i f) = stepped (readOutcome (w .nets i) (w .files f)) (withNet w i)
-step w (relabel order xs tables) = stepped (relabelOutcome order xs tables) (λ (t : Tables). w)
-step w (divide i B k tables) = stepped (divideOutcome (w .nets i) B k tables) (λ (t : Division). w)
+step w (relabel order xs tables) = stepped (relabelOutcome order xs tables) (λ (t : RelabelTables). w)
+step w (divide i B k tables) = stepped (divideOutcome (w .nets i) B k tables) (λ (t : DivisionTables). w)
 step w (report i B k xs tables) = stepped (reportOutcome (w .nets i) B k xs tables) (λ (t : Lent). w)

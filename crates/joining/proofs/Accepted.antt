@@ -7,18 +7,18 @@ use borrow.Author.Tests.{ltb-false}
 use Rattle.game.specs.Net.{Net, total}
 use Rattle.refusal.specs.Limits.{maxTotal}
 use Rattle.refusal.proofs.First.{first-none, given-none, length-right}
-use Rattle.growth.specs.Work.{Growing}
+use Rattle.growth.specs.Work.{NetWithWork}
 use Rattle.joining.specs.Join.{joinRefusal}
 use Rattle.growth.proofs.Whole.{Whole, Room, whole, room}
 
-pub record Joinable (g : Growing) (other : Net) : Type 0 where
+pub record Joinable (g : NetWithWork) (other : Net) : Type 0 where
   pub net : Whole (g .net)
   pub second : Whole other
   pub same : length (other .parents) ≡ length (g .net .parents)
   pub work : Room (length (g .net .parents)) (length (g .net .parents) + length (other .parents)) (g .work)
   pub light : total (g .net) + total other ≤ maxTotal
 
-pub joinable : (g : Growing) (other : Net) → joinRefusal g other ≡ 0 → Joinable g other
+pub joinable : (g : NetWithWork) (other : Net) → joinRefusal g other ≡ 0 → Joinable g other
 unfolding joinRefusal
 joinable g other z =
     let a = first-none _ _ z in

@@ -10,7 +10,7 @@ use Rattle.game.proofs.Proper.{proper-append}
 use Rattle.game.specs.Graph.{Proper}
 use Rattle.game.proofs.Links.{links-proper}
 use Rattle.bucket.specs.Filed.{Filed}
-use Rattle.growth.specs.Work.{growing, workOf, cleared}
+use Rattle.growth.specs.Work.{withWork, workOf, cleared}
 use Rattle.joining.specs.Join.{joined}
 use Rattle.growth.specs.Growth.{Regrows}
 use Rattle.growth.proofs.NewParents.{links-in}
@@ -18,10 +18,10 @@ use Rattle.growth.proofs.Regrown.{regrown}
 use Rattle.growth.proofs.Rooms.{same-room}
 use Rattle.joining.proofs.Accepted.{Joinable}
 
-module _ {p w q v e j l : List ℕ} (a : Joinable (growing (net p w) (workOf e j l)) (net q v)) where
+module _ {p w q v e j l : List ℕ} (a : Joinable (withWork (net p w) (workOf e j l)) (net q v)) where
   join-proper : Proper (length p) (links p ++ links q)
   join-proper = proper-append (links-proper (a .net .sound)) (subst (λ (n : ℕ). Proper n (links q)) (a .same) (links-proper (a .second .sound)))
 
-  pub join-ends : {w′ e′ l′ p″ e″ l″ j″ : List ℕ} → w′ ≡ zipWith _+_ w v → Filed (length p) (links p ++ links q) e′ l′ → length e′ ≡ length e → length l′ ≡ length l → Regrows e′ l′ p j p″ e″ l″ j″ → growing (net p″ w′) (workOf e″ j″ l″) ≡ growing (joined (net p w) (net q v)) (cleared (workOf e j l))
+  pub join-ends : {w′ e′ l′ p″ e″ l″ j″ : List ℕ} → w′ ≡ zipWith _+_ w v → Filed (length p) (links p ++ links q) e′ l′ → length e′ ≡ length e → length l′ ≡ length l → Regrows e′ l′ p j p″ e″ l″ j″ → withWork (net p″ w′) (workOf e″ j″ l″) ≡ withWork (joined (net p w) (net q v)) (cleared (workOf e j l))
   unfolding joined
-  join-ends t f s s′ r = ap₂ growing (ap₂ net (regrown join-proper f (links-in (a .net .sound) (links q)) r) t) (r .clear ∙ same-room _ _ _ e j l s refl s′)
+  join-ends t f s s′ r = ap₂ withWork (ap₂ net (regrown join-proper f (links-in (a .net .sound) (links q)) r) t) (r .clear ∙ same-room _ _ _ e j l s refl s′)

@@ -12,7 +12,7 @@ use Rattle.refusal.specs.Limits.{maxTotal}
 use Rattle.refusal.specs.Refusal.{given, first, badCount, wrongLength}
 use Rattle.refusal.specs.Outcome.{Done, done}
 use Rattle.net.specs.Damage.{damaged}
-use Rattle.growth.specs.Work.{Growing, badWork, cleared}
+use Rattle.growth.specs.Work.{NetWithWork, badWork, cleared}
 
 -- two nets joined
 unfoldable pub joined : Net → Net → Net
@@ -21,7 +21,7 @@ joined one other = record {
   weights = zipWith _+_ (one .weights) (other .weights);
 }
 
-unfoldable pub joinRefusal : Growing → Net → ℕ
+unfoldable pub joinRefusal : NetWithWork → Net → ℕ
 joinRefusal g other =
     let n : ℕ = length (g .net .parents) in
     let m : ℕ = length (other .parents) in
@@ -37,5 +37,5 @@ joinRefusal g other =
     ∷ given (ltb maxTotal (total (g .net) + total other)) 20
     ∷ [])
 
-unfoldable pub joinOutcome : Growing → Net → Done Growing
+unfoldable pub joinOutcome : NetWithWork → Net → Done NetWithWork
 joinOutcome g other = done (joinRefusal g other) g (record { net = joined (g .net) other; work = cleared (g .work) })

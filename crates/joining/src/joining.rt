@@ -6,7 +6,7 @@ ghost use mathlib.Core.List.{zipWith};
 ghost use Prim.Native.Nat.{_+_, _^_, _<_};
 ghost use lib.ListN.{length};
 ghost use Rattle.game.specs.Net.{net};
-ghost use Rattle.growth.specs.Work.{growing, workOf};
+ghost use Rattle.growth.specs.Work.{withWork, workOf};
 ghost use Rattle.game.specs.Table.{sum};
 ghost use Rattle.refusal.specs.Answer.{verdict};
 ghost use Rattle.refusal.specs.Outcome.{ended};
@@ -23,7 +23,7 @@ fn join_refusal(
     lower: &[u32],
 ) -> u32
     ensures { λ r. ⌜
-        r ≡ joinRefusal (growing (net (now (parents .entry)) (now (weights .entry))) (workOf (now (ends .entry)) (now (jump .entry)) (now (lower .entry))))
+        r ≡ joinRefusal (withWork (net (now (parents .entry)) (now (weights .entry))) (workOf (now (ends .entry)) (now (jump .entry)) (now (lower .entry))))
         (net (now («other_parents» .entry)) (now («other_weights» .entry))) ⌝ }
 {
     let n = parents.len();
@@ -84,8 +84,8 @@ pub fn join(
     lower: &mut [u32],
 ) -> Answer
     ensures { λ r. ⌜
-        ended (verdict r) (growing (net (now (parents .exit)) (now (weights .exit))) (workOf (now (ends .exit)) (now (jump .exit)) (now (lower .exit))))
-        ≡ joinOutcome (growing (net (now (parents .entry)) (now (weights .entry))) (workOf (now (ends .entry)) (now (jump .entry)) (now (lower .entry))))
+        ended (verdict r) (withWork (net (now (parents .exit)) (now (weights .exit))) (workOf (now (ends .exit)) (now (jump .exit)) (now (lower .exit))))
+        ≡ joinOutcome (withWork (net (now (parents .entry)) (now (weights .entry))) (workOf (now (ends .entry)) (now (jump .entry)) (now (lower .entry))))
         (net (now («other_parents» .entry)) (now («other_weights» .entry))) ⌝ }
 {
     let code = join_refusal(

@@ -13,7 +13,7 @@ use Rattle.game.proofs.Tables.{tabulate-length, tabulate-entry}
 use Rattle.groups.specs.Cut.{carried, cut, top, isTop}
 use Rattle.packing.specs.Pack.{loadsBelow, blockOf, maxBlocks}
 use Rattle.game.specs.Net.{net}
-use Rattle.partition.specs.Divide.{tables, divided}
+use Rattle.partition.specs.Divide.{divisionOf, divided}
 use Rattle.packing.specs.Steps.{Packable, Topped, Assigned}
 use Rattle.groups.specs.Steps.{Divisible, Grouped}
 use Rattle.groups.proofs.Lists.{stretch, stretch-in, sum-agree}
@@ -71,9 +71,9 @@ module _ {p w : List ℕ} {B : ℕ} (d : Divisible p w B) where
 
     -- all tables are as they have to be
     pub all-divided : {block loads : List ℕ} {k : ℕ} → Assigned tops now block loads → length loads ≡ k
-        → tables now tops block loads ≡ divided (net p w) B k
+        → divisionOf now tops block loads ≡ divided (net p w) B k
     unfolding divided cut
-    all-divided {block} {loads} {k} a h = λ i. tables (c .weights i) (c .table i) (blocks i) (sums i)
+    all-divided {block} {loads} {k} a h = λ i. divisionOf (c .weights i) (c .table i) (blocks i) (sums i)
       where
         new : List ℕ
         new = tabulate (length p) (top p (cut p w B))

@@ -17,7 +17,7 @@ use Rattle.refusal.proofs.Never.{end-not, other-not, false-not, verdict-not}
 use Rattle.forest.specs.Promise.{Valid}
 use Rattle.forest.proofs.Promise.{valid-undamaged}
 use Rattle.groups.specs.Cut.{carried, cut, top, groupWeight, group}
-use Rattle.partition.specs.Divide.{Tables, divided, divideRefusal, divideOutcome}
+use Rattle.partition.specs.Divide.{DivisionTables, divided, divideRefusal, divideOutcome}
 use Rattle.partition.specs.Division.{weightAt, Division}
 use Rattle.groups.specs.Steps.{Divisible}
 use Rattle.groups.proofs.Lists.{stretch, stretch-in, sum-agree}
@@ -28,7 +28,7 @@ use Rattle.partition.proofs.Laws.{group-carried, block-loads-sum, large
 use Rattle.partition.proofs.Refused.{divide-known}
 
 module _ {p w : List ℕ} {B : ℕ} (d : Divisible p w B) (k : ℕ) (some : 1 ≤ k) where
-  abbrev its : Tables
+  abbrev its : DivisionTables
   its = divided (net p w) B k
 
   top-entry : (x : ℕ) → x < length p → getD (divided (net p w) B k .top) x 0 ≡ top p (cut p w B) x
@@ -59,7 +59,7 @@ module _ {p w : List ℕ} {B : ℕ} (d : Divisible p w B) (k : ℕ) (some : 1 �
   }
 
 -- every accepted division
-pub divide-division : (of : Net) (B k : ℕ) (was : Tables) → divideOutcome of B k was .verdict ≡ accepted tt → Division of B k (divideOutcome of B k was .tables)
+pub divide-division : (of : Net) (B k : ℕ) (was : DivisionTables) → divideOutcome of B k was .verdict ≡ accepted tt → Division of B k (divideOutcome of B k was .tables)
 unfolding divideOutcome decided
 divide-division of B k was a =
     let z = accepted-none (divideRefusal of B k was) _ a in
@@ -68,7 +68,7 @@ divide-division of B k was a =
     subst (Division of B k) (sym (unless-accepted (divideRefusal of B k was) was (divided of B k) z)) (division (known .net) k some)
 
 -- The forest crate's promise is all that Divide asks of a net beside its limits: a valid net is not refused with 30.
-pub divide-not-30 : (of : Net) (B k : ℕ) (was : Tables) → Valid of → divideOutcome of B k was .verdict ≡ refused 30 → ⊥
+pub divide-not-30 : (of : Net) (B k : ℕ) (was : DivisionTables) → Valid of → divideOutcome of B k was .verdict ≡ refused 30 → ⊥
 unfolding divideOutcome decided divideRefusal
 divide-not-30 of B k was v =
     verdict-not _ _ 30

@@ -25,7 +25,7 @@ use Rattle.game.proofs.Bools.{or-neither}
 use Rattle.game.proofs.Sound.{true-sound}
 use Rattle.partition.specs.Steps.{Fitting}
 use Rattle.groups.specs.Steps.{Divisible}
-use Rattle.partition.specs.Divide.{outside, badLimits, tooHeavy, maxLimit, Tables, wrongTables, divideRefusal, divided, divideOutcome}
+use Rattle.partition.specs.Divide.{outside, badLimits, tooHeavy, maxLimit, DivisionTables, wrongTables, divideRefusal, divided, divideOutcome}
 use Rattle.packing.specs.Pack.{maxBlocks}
 
 module _ (most v : ℕ) where
@@ -69,14 +69,14 @@ limits-not B k e =
     (b .0, b .1, c .0, c .1)
 
 -- right lengths
-pub record Sized (net : Net) (k : ℕ) (was : Tables) : Type 0 where
+pub record Sized (net : Net) (k : ℕ) (was : DivisionTables) : Type 0 where
   pub weights : length (net .weights) ≡ length (net .parents)
   pub carried : length (was .carried) ≡ length (net .parents)
   pub top : length (was .top) ≡ length (net .parents)
   pub block : length (was .block) ≡ length (net .parents)
   pub loads : length (was .blockLoads) ≡ k
 
-pub tables-not : (net : Net) (k : ℕ) (was : Tables) → wrongTables net k was ≡ false → Sized net k was
+pub tables-not : (net : Net) (k : ℕ) (was : DivisionTables) → wrongTables net k was ≡ false → Sized net k was
 unfolding wrongTables
 tables-not net k was e =
     let a = or-neither (w || c || t || b) (wrongLength (length (was .blockLoads)) k) e in
@@ -107,7 +107,7 @@ tables-not net k was e =
     b = wrongLength (length (was .block)) n
 
 -- 2, by the lengths that the code compares
-pub tables-as : (net : Net) (k : ℕ) (was : Tables) {blocks : ℕ} {r : Bool} → blocks ≡ k
+pub tables-as : (net : Net) (k : ℕ) (was : DivisionTables) {blocks : ℕ} {r : Bool} → blocks ≡ k
     → r ≡ (wrongLength (length (net .weights)) (length (net .parents)) || wrongLength (length (was .carried)) (length (net .parents)) || wrongLength (length (was .top)) (length (net .parents)) || wrongLength (length (was .block)) (length (net .parents)) || wrongLength (length (was .blockLoads)) blocks)
     → wrongTables net k was ≡ r
 unfolding wrongTables
@@ -132,7 +132,7 @@ heavy-not B (v ∷ w) e zero = ltb-false B v (or-neither (ltb B v) (tooHeavy B w
 heavy-not B (v ∷ w) e (suc x) = heavy-not B w (or-neither (ltb B v) (tooHeavy B w) e .1) x
 
 -- Divide's refusal, test by test: each is reached if no earlier one applied
-module _ (net : Net) (B k : ℕ) (was : Tables) where
+module _ (net : Net) (B k : ℕ) (was : DivisionTables) where
   abbrev heavy : List ℕ
   heavy = given (tooHeavy B (net .weights)) 22 ∷ []
 
@@ -174,12 +174,12 @@ module _ (net : Net) (B k : ℕ) (was : Tables) where
           refused-not e = pass 1 sizes e₁ ∙ pass 2 limits e₂ ∙ pass 8 damage e₃ ∙ pass 30 heavy e₄ ∙ pass 22 [] e ∙ first-end
 
 -- what an accepted call knows
-pub record Accepted (p w : List ℕ) (B k : ℕ) (was : Tables) : Type 0 where
+pub record Accepted (p w : List ℕ) (B k : ℕ) (was : DivisionTables) : Type 0 where
   pub net : Divisible p w B
   pub tables : Fitting (length p) was
   pub blocks : length (was .blockLoads) ≡ k
 
-pub divide-known : (p w : List ℕ) (B k : ℕ) (was : Tables) → divideRefusal (net p w) B k was ≡ 0 → Accepted p w B k was
+pub divide-known : (p w : List ℕ) (B k : ℕ) (was : DivisionTables) → divideRefusal (net p w) B k was ≡ 0 → Accepted p w B k was
 unfolding divideRefusal damaged
 divide-known p w B k was e =
     let a = first-none (given (badCount (length p)) 1) (sizes (net p w) B k was) e in
@@ -206,12 +206,12 @@ divide-known p w B k was e =
     }
 
 -- how Divide ends
-module _ (net : Net) (B k : ℕ) (was : Tables) {m : ℕ} (e : m ≡ divideRefusal net B k was) where
+module _ (net : Net) (B k : ℕ) (was : DivisionTables) {m : ℕ} (e : m ≡ divideRefusal net B k was) where
   pub divide-refused : (m ≡ 0 → ⊥) → ended (refused m) was ≡ divideOutcome net B k was
   unfolding divideOutcome
   divide-refused d = ends-refused (divideRefusal net B k was) tt was (divided net B k) e (λ z. d (e ∙ z)) refl
 
-  pub divide-accepted : m ≡ 0 → {j : ℕ} {new : Tables} → j ≡ k → new ≡ divided net B j → ended (accepted tt) new ≡ divideOutcome net B k was
+  pub divide-accepted : m ≡ 0 → {j : ℕ} {new : DivisionTables} → j ≡ k → new ≡ divided net B j → ended (accepted tt) new ≡ divideOutcome net B k was
   unfolding divideOutcome
   divide-accepted z f g =
       ends-accepted (divideRefusal net B k was) tt was (divided net B k) refl (sym e ∙ z) (g ∙ ap (divided net B) f)

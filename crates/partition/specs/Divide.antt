@@ -35,17 +35,17 @@ unfolding some-entry
 tooHeavy B w = some-entry (λ (v : ℕ). ltb B v) w
 
 -- the tables that Divide writes
-pub record Tables : Type 0 where
+pub record DivisionTables : Type 0 where
   pub carried : List ℕ
   pub top : List ℕ
   pub block : List ℕ
   pub blockLoads : List ℕ
 
-abbrev pub tables : List ℕ → List ℕ → List ℕ → List ℕ → Tables
-tables c t b l = record { carried = c; top = t; block = b; blockLoads = l }
+abbrev pub divisionOf : List ℕ → List ℕ → List ℕ → List ℕ → DivisionTables
+divisionOf c t b l = record { carried = c; top = t; block = b; blockLoads = l }
 
 -- "It writes carried load, top and block of each rank, and the load of each of the k blocks"; a rank goes into the block of its top
-unfoldable pub divided : Net → ℕ → ℕ → Tables
+unfoldable pub divided : Net → ℕ → ℕ → DivisionTables
 unfolding carried cutBy top tabulate blockOf loadsBelow
 divided net B k =
     let p : List ℕ = net .parents in
@@ -55,10 +55,10 @@ divided net B k =
     let tops : List ℕ = tabulate (length p) (top p (cutBy p w B c)) in
     let topOf : ℕ → ℕ = λ (x : ℕ). getD tops x 0 in
     let isTop : ℕ → Bool = λ (x : ℕ). eqb (topOf x) x in
-    tables carries tops (tabulate (length p) (λ (x : ℕ). blockOf isTop c k (topOf x))) (loadsBelow isTop c k (length p))
+    divisionOf carries tops (tabulate (length p) (λ (x : ℕ). blockOf isTop c k (topOf x))) (loadsBelow isTop c k (length p))
 
 -- 2: "a table of the wrong length for the call": the loads are a table of the k that is given, the others of n
-unfoldable pub wrongTables : Net → ℕ → Tables → Bool
+unfoldable pub wrongTables : Net → ℕ → DivisionTables → Bool
 unfolding wrongLength
 wrongTables net k was =
     let n : ℕ = length (net .parents) in
@@ -69,7 +69,7 @@ wrongTables net k was =
     || wrongLength (length (was .blockLoads)) k
 
 -- the number for which Divide is refused, or 0; `was` are the tables as they were lent
-unfoldable pub divideRefusal : Net → ℕ → ℕ → Tables → ℕ
+unfoldable pub divideRefusal : Net → ℕ → ℕ → DivisionTables → ℕ
 divideRefusal net B k was =
     first
     (given (badCount (length (net .parents))) 1
@@ -79,5 +79,5 @@ divideRefusal net B k was =
     ∷ given (tooHeavy B (net .weights)) 22
     ∷ [])
 
-unfoldable pub divideOutcome : Net → ℕ → ℕ → Tables → Done Tables
+unfoldable pub divideOutcome : Net → ℕ → ℕ → DivisionTables → Done DivisionTables
 divideOutcome net B k was = done (divideRefusal net B k was) was (divided net B k)

@@ -12,14 +12,14 @@ use lib.ListN.{length, getD}
 use Rattle.game.specs.Table.{tabulate, sum, filtered}
 use Rattle.game.specs.Net.{Net, total}
 use Rattle.packing.specs.Pack.{largest}
-use Rattle.partition.specs.Divide.{Tables}
+use Rattle.partition.specs.Divide.{DivisionTables}
 
 -- what the vertices weigh together whose entry in a table is v
 unfoldable pub weightAt : Net → (table : List ℕ) → (v : ℕ) → ℕ
 weightAt of table v =
     sum (map (λ (x : ℕ). getD (of .weights) x 0) (filtered (λ (x : ℕ). eqb (getD table x 0) v) (tabulate (length (of .parents)) (λ (x : ℕ). x))))
 
-pub record Division (of : Net) (B k : ℕ) (its : Tables) : Type 0 where
+pub record Division (of : Net) (B k : ℕ) (its : DivisionTables) : Type 0 where
   pub loads-sum : sum (its .blockLoads) ≡ total of
   pub loads-even : k * largest (its .blockLoads) ≤ total of + (k - 1) * B
   pub load : (j : ℕ) → j < k → getD (its .blockLoads) j 0 ≡ weightAt of (its .block) j

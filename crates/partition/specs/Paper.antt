@@ -12,18 +12,18 @@ use Rattle.net.specs.Damage.{damagedBy, damaged}
 use Rattle.refusal.specs.Refusal.{given, first, unless, badCount}
 use Rattle.refusal.specs.Verdict.{accepted, refused, judged}
 use Rattle.refusal.specs.Outcome.{Done, ended, decided}
-use Rattle.partition.specs.Divide.{Tables, tables, badLimits, tooHeavy, divided, wrongTables, divideRefusal, divideOutcome}
+use Rattle.partition.specs.Divide.{DivisionTables, divisionOf, badLimits, tooHeavy, divided, wrongTables, divideRefusal, divideOutcome}
 
 -- the net of the whole case, by rank
 net : Net
 net = record { parents = 2 ∷ 3 ∷ 4 ∷ 4 ∷ 5 ∷ absent ∷ []; weights = 3 ∷ 2 ∷ 1 ∷ 0 ∷ 0 ∷ 0 ∷ [] }
 
 -- tables of the right lengths, lent with sevens in them
-lent : ℕ → Tables
-lent k = tables (replicate 6 7) (replicate 6 7) (replicate 6 7) (replicate k 7)
+lent : ℕ → DivisionTables
+lent k = divisionOf (replicate 6 7) (replicate 6 7) (replicate 6 7) (replicate k 7)
 
 -- B = 4 and k = 2; B = 3; k = 1; B = 2, which is refused; a block count of 0, and a table too long for it
-pub computed : List (Done Tables)
+pub computed : List (Done DivisionTables)
 computed =
     divideOutcome net 4 2 (lent 2)
     ∷ divideOutcome net 3 2 (lent 2)
@@ -33,11 +33,11 @@ computed =
     ∷ divideOutcome net 4 0 (lent 1)
     ∷ []
 
-pub printed : List (Done Tables)
+pub printed : List (Done DivisionTables)
 printed =
-    ended (accepted tt) (tables (3 ∷ 2 ∷ 4 ∷ 2 ∷ 2 ∷ 2 ∷ []) (2 ∷ 5 ∷ 2 ∷ 5 ∷ 5 ∷ 5 ∷ []) (0 ∷ 1 ∷ 0 ∷ 1 ∷ 1 ∷ 1 ∷ []) (4 ∷ 2 ∷ []))
-    ∷ ended (accepted tt) (tables (3 ∷ 2 ∷ 1 ∷ 2 ∷ 3 ∷ 3 ∷ []) (0 ∷ 5 ∷ 5 ∷ 5 ∷ 5 ∷ 5 ∷ []) (0 ∷ 1 ∷ 1 ∷ 1 ∷ 1 ∷ 1 ∷ []) (3 ∷ 3 ∷ []))
-    ∷ ended (accepted tt) (tables (3 ∷ 2 ∷ 4 ∷ 2 ∷ 2 ∷ 2 ∷ []) (2 ∷ 5 ∷ 2 ∷ 5 ∷ 5 ∷ 5 ∷ []) (replicate 6 0) (6 ∷ []))
+    ended (accepted tt) (divisionOf (3 ∷ 2 ∷ 4 ∷ 2 ∷ 2 ∷ 2 ∷ []) (2 ∷ 5 ∷ 2 ∷ 5 ∷ 5 ∷ 5 ∷ []) (0 ∷ 1 ∷ 0 ∷ 1 ∷ 1 ∷ 1 ∷ []) (4 ∷ 2 ∷ []))
+    ∷ ended (accepted tt) (divisionOf (3 ∷ 2 ∷ 1 ∷ 2 ∷ 3 ∷ 3 ∷ []) (0 ∷ 5 ∷ 5 ∷ 5 ∷ 5 ∷ 5 ∷ []) (0 ∷ 1 ∷ 1 ∷ 1 ∷ 1 ∷ 1 ∷ []) (3 ∷ 3 ∷ []))
+    ∷ ended (accepted tt) (divisionOf (3 ∷ 2 ∷ 4 ∷ 2 ∷ 2 ∷ 2 ∷ []) (2 ∷ 5 ∷ 2 ∷ 5 ∷ 5 ∷ 5 ∷ []) (replicate 6 0) (6 ∷ []))
     ∷ ended (refused 22) (lent 2)
     ∷ ended (refused 8) (lent 0)
     ∷ ended (refused 2) (lent 1)

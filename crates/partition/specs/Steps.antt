@@ -4,10 +4,10 @@ use mathlib.Core.Path.{_≡_}
 use Prim.Native.Nat.{ℕ, _≤_}
 use lib.ListN.{length}
 use Rattle.packing.specs.Pack.{maxBlocks}
-use Rattle.partition.specs.Divide.{Tables}
+use Rattle.partition.specs.Divide.{DivisionTables}
 
 -- tables that Divide can write for n vertices, with at least one block
-pub record Fitting (n : ℕ) (t : Tables) : Type 0 where
+pub record Fitting (n : ℕ) (t : DivisionTables) : Type 0 where
   pub carried : length (t .carried) ≡ n
   pub top : length (t .top) ≡ n
   pub block : length (t .block) ≡ n

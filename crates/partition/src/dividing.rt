@@ -13,7 +13,7 @@ ghost use Rattle.refusal.specs.Refusal.{wrongLength};
 ghost use Rattle.refusal.specs.Answer.{verdict};
 ghost use Rattle.refusal.specs.Outcome.{ended};
 ghost use Rattle.game.specs.Net.{net};
-ghost use Rattle.partition.specs.Divide.{tables, divided, divideRefusal, divideOutcome};
+ghost use Rattle.partition.specs.Divide.{divisionOf, divided, divideRefusal, divideOutcome};
 ghost use Rattle.partition.specs.Steps.{Fitting};
 ghost use Rattle.groups.specs.Steps.{Divisible};
 
@@ -28,9 +28,9 @@ pub fn cut_and_pack(
     block_loads: &mut [u32],
 )
     requires { ⌜ Divisible (now parents) (now weights) limit ⌝ }
-    requires { ⌜ Fitting (length (now parents)) (tables (now carried) (now top) (now block) (now «block_loads»)) ⌝ }
+    requires { ⌜ Fitting (length (now parents)) (divisionOf (now carried) (now top) (now block) (now «block_loads»)) ⌝ }
     ensures { λ _. ⌜
-        tables (now (carried .exit)) (now (top .exit)) (now (block .exit)) (now («block_loads» .exit))
+        divisionOf (now (carried .exit)) (now (top .exit)) (now (block .exit)) (now («block_loads» .exit))
         ≡ divided (net (now (parents .entry)) (now (weights .entry))) limit (length (now («block_loads» .entry)))
         ⌝ }
 {
@@ -67,7 +67,7 @@ fn divide_refusal(
     ensures { λ r. ⌜
         r
         ≡ divideRefusal (net (now (parents .entry)) (now (weights .entry))) limit blocks
-        (tables (now (carried .entry)) (now (top .entry)) (now (block .entry)) (now («block_loads» .entry)))
+        (divisionOf (now (carried .entry)) (now (top .entry)) (now (block .entry)) (now («block_loads» .entry)))
         ⌝ }
 {
     if refusal::bad_count(parents.len()) {
@@ -110,9 +110,9 @@ pub fn divide(
     block_loads: &mut [u32],
 ) -> Answer
     ensures { λ r. ⌜
-        ended (verdict r) (tables (now (carried .exit)) (now (top .exit)) (now (block .exit)) (now («block_loads» .exit)))
+        ended (verdict r) (divisionOf (now (carried .exit)) (now (top .exit)) (now (block .exit)) (now («block_loads» .exit)))
         ≡ divideOutcome (net (now (parents .entry)) (now (weights .entry))) limit blocks
-        (tables (now (carried .entry)) (now (top .entry)) (now (block .entry)) (now («block_loads» .entry)))
+        (divisionOf (now (carried .entry)) (now (top .entry)) (now (block .entry)) (now («block_loads» .entry)))
         ⌝ }
 {
     let code = divide_refusal(

@@ -22,7 +22,7 @@ pub record Stage (p w size ends stops : List ℕ) (m i top : ℕ) : Type 0 where
   pub placed : Placed p w (entryOf size) m i (λ x. getD ends x 0 - getD size x 0) (λ x. getD stops x top) (entryOf ends)
 
 -- the plain facts beside it: below i the subtree counts are not yet overwritten
-pub record Tables (p size ends stops : List ℕ) (i : ℕ) : Type 0 where
+pub record PlaceTables (p size ends stops : List ℕ) (i : ℕ) : Type 0 where
   pub below : i ≤ length p
   pub ends-entries : length ends ≡ length p
   pub stops-entries : length stops ≡ length p
@@ -34,7 +34,7 @@ stage-first {size = size} {stops = stops} {m = m} e st =
     record { subtrees = st; placed = placed-first st (omega arith) (List·getD-eq-default stops m (rw e (st .short))) }
 
 -- at last the slots are laid out, and what each vertex has left are its own
-module _ {p w size ends stops : List ℕ} {m top′ : ℕ} (t : Tables p size ends stops 0) (stage : Stage p w size ends stops m 0 top′) where
+module _ {p w size ends stops : List ℕ} {m top′ : ℕ} (t : PlaceTables p size ends stops 0) (stage : Stage p w size ends stops m 0 top′) where
   d : Placed p w (entryOf size) m 0 (λ x. getD ends x 0 - getD size x 0) (λ x. getD stops x top′) (entryOf ends)
   d = stage .placed
 
@@ -89,7 +89,7 @@ module _ {p w size ends stops : List ℕ} {m top′ : ℕ} (t : Tables p size en
           (g .place)
 
 -- the turn of the loop at the vertex x − 1, with its parent and its subtree's count as they are read
-module _ {p size ends stops : List ℕ} {x : ℕ} (h : 0 < x) (t : Tables p size ends stops x) where
+module _ {p size ends stops : List ℕ} {x : ℕ} (h : 0 < x) (t : PlaceTables p size ends stops x) where
   inside : x - 1 < length p
   inside = let b : x ≤ length p = t .below in omega arith
 
@@ -100,7 +100,7 @@ module _ {p size ends stops : List ℕ} {x : ℕ} (h : 0 < x) (t : Tables p size
   parent-read = getD-default p (x - 1) 0 absent inside
 
   -- a store at x − 1 leaves what is below
-  pub tables-next : {stops′ : List ℕ} → length stops′ ≡ length stops → (v : ℕ) → Tables p size (set ends (x - 1) v) stops′ (x - 1)
+  pub tables-next : {stops′ : List ℕ} → length stops′ ≡ length stops → (v : ℕ) → PlaceTables p size (set ends (x - 1) v) stops′ (x - 1)
   tables-next e v =
       record {
         below = let b = inside in omega arith;

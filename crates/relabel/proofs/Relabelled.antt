@@ -14,7 +14,7 @@ use Rattle.refusal.specs.Verdict.{accepted, refused}
 use Rattle.refusal.specs.Outcome.{ended}
 use Rattle.refusal.proofs.Fault.{faultless, fault-none, first-fault-on}
 use Rattle.refusal.proofs.Ends.{ends-refused, ends-accepted}
-use Rattle.relabel.specs.Relabel.{badOrder, rankOf, inverseOf, relabelled, tables, relabelRefusal, relabelOutcome}
+use Rattle.relabel.specs.Relabel.{badOrder, rankOf, inverseOf, relabelled, relabelTables, relabelRefusal, relabelOutcome}
 use Rattle.relabel.specs.LookUp.{lookedUp}
 use Rattle.relabel.proofs.Rank.{rank-below, rank-injective}
 use Rattle.relabel.proofs.Faultless.{faultless-cons}
@@ -58,13 +58,13 @@ inverse-room order e b = rw (ap length e ∙ tabulate-length (length order) (ran
 
 -- the two ways in which a call ends
 module _ (order xs out inverse : List ℕ) {code : ℕ} (decides : code ≡ relabelRefusal order xs (length out) (length inverse)) where
-  pub relabel-refused : (code ≡ 0 → ⊥) → ended (refused code) (tables out inverse) ≡ relabelOutcome order xs (tables out inverse)
+  pub relabel-refused : (code ≡ 0 → ⊥) → ended (refused code) (relabelTables out inverse) ≡ relabelOutcome order xs (relabelTables out inverse)
   unfolding relabelOutcome
   relabel-refused d = ends-refused _ _ _ _ decides (λ e. d (decides ∙ e)) refl
 
-  pub relabel-accepted : {out′ inverse′ : List ℕ} → code ≡ 0 → inverse′ ≡ inverseOf order → out′ ≡ lookedUp inverse′ xs → ended (accepted tt) (tables out′ inverse′) ≡ relabelOutcome order xs (tables out inverse)
+  pub relabel-accepted : {out′ inverse′ : List ℕ} → code ≡ 0 → inverse′ ≡ inverseOf order → out′ ≡ lookedUp inverse′ xs → ended (accepted tt) (relabelTables out′ inverse′) ≡ relabelOutcome order xs (relabelTables out inverse)
   unfolding relabelOutcome
   relabel-accepted e i o =
       let known = relabel-known order xs (length out) (length inverse) decides e in
       ends-accepted _ _ _ _ refl (sym decides ∙ e)
-      (ap₂ tables (o ∙ ap (λ (t : List ℕ). lookedUp t xs) i ∙ inverse-relabels order xs (known .even) (known .vertices)) i)
+      (ap₂ relabelTables (o ∙ ap (λ (t : List ℕ). lookedUp t xs) i ∙ inverse-relabels order xs (known .even) (known .vertices)) i)

@@ -45,12 +45,12 @@ relabelled order (a ∷ []) = a ∷ []
 relabelled order (a ∷ b ∷ xs) = rankOf order a ∷ rankOf order b ∷ relabelled order xs
 
 -- the tables that the call is lent to write: the list in ranks, and the order's inverse
-pub record Tables : Type 0 where
+pub record RelabelTables : Type 0 where
   pub out : List ℕ
   pub inverse : List ℕ
 
-abbrev pub tables : List ℕ → List ℕ → Tables
-tables xs ys = record { out = xs; inverse = ys }
+abbrev pub relabelTables : List ℕ → List ℕ → RelabelTables
+relabelTables xs ys = record { out = xs; inverse = ys }
 
 -- of an order, a flat edge list, and the lengths of the two tables
 unfoldable pub relabelRefusal : List ℕ → List ℕ → ℕ → ℕ → ℕ
@@ -65,9 +65,9 @@ relabelRefusal order xs outLength inverseLength =
     ∷ [])
 
 -- what the call leaves, of an order, a flat edge list and the tables as they were
-unfoldable pub relabelOutcome : List ℕ → List ℕ → Tables → Done Tables
+unfoldable pub relabelOutcome : List ℕ → List ℕ → RelabelTables → Done RelabelTables
 relabelOutcome order xs was =
     done
     (relabelRefusal order xs (length (was .out)) (length (was .inverse)))
     was
-    (tables (relabelled order xs) (inverseOf order))
+    (relabelTables (relabelled order xs) (inverseOf order))

@@ -7,7 +7,7 @@ ghost use lib.ListN.{length};
 ghost use Rattle.refusal.specs.Answer.{verdict};
 ghost use Rattle.refusal.specs.Limits.{maxVertices};
 ghost use Rattle.refusal.specs.Outcome.{ended};
-ghost use Rattle.relabel.specs.Relabel.{badOrder, inverseOf, tables, relabelRefusal, relabelOutcome};
+ghost use Rattle.relabel.specs.Relabel.{badOrder, inverseOf, relabelTables, relabelRefusal, relabelOutcome};
 ghost use Rattle.relabel.specs.LookUp.{lookedUp};
 ghost use Rattle.game.specs.Table.{Below};
 ghost use Rattle.relabel.specs.VertexSet.{setWords, bitAt, setBit};
@@ -110,7 +110,7 @@ fn look_up(table: &[u32], numbers: &[u32], out: &mut [u32])
 // Translates an edge list from vertex numbers to ranks, by an order, into `out`. The work table `inverse`, as long as the order, ends
 // holding the rank of each vertex by its number. A refused call leaves both as they came.
 pub fn relabel(order: &[u32], edges: &[u32], out: &mut [u32], inverse: &mut [u32]) -> Answer
-    ensures { λ r. ⌜ ended (verdict r) (tables (now (out .exit)) (now (inverse .exit))) ≡ relabelOutcome (now (order .entry)) (now (edges .entry)) (tables (now (out .entry)) (now (inverse .entry))) ⌝ }
+    ensures { λ r. ⌜ ended (verdict r) (relabelTables (now (out .exit)) (now (inverse .exit))) ≡ relabelOutcome (now (order .entry)) (now (edges .entry)) (relabelTables (now (out .entry)) (now (inverse .entry))) ⌝ }
 {
     let code = relabel_refusal(order, edges, out.len(), inverse.len());
     if code != 0 {

@@ -16,7 +16,7 @@ use Rattle.refusal.specs.Refusal.{badCount, wrongLength, odd, firstFault}
 use Rattle.refusal.proofs.First.{first-none, given-none, good-count, length-right}
 use Rattle.growth.specs.Work.{workOf, badWork}
 use Rattle.growth.proofs.Rooms.{good-work}
-use Rattle.partition.specs.Divide.{tables, wrongTables, divideRefusal}
+use Rattle.partition.specs.Divide.{divisionOf, wrongTables, divideRefusal}
 use Rattle.partition.proofs.Refused.{Sized, tables-not, refused-not}
 use Rattle.compare.specs.Compare.{wrongCompared}
 use Rattle.compare.specs.Steps.{Comparable}
@@ -27,7 +27,7 @@ use Rattle.report.specs.Report.{Lent, lent, wrongFigures, wrongLent, ear
 -- the tables that are lent, one by one
 module _ (p w xs c t b l eb re bc cp cw e j lo : List ℕ) where
   abbrev was : Lent
-  was = lent (written (tables c t b l) eb re bc) (net cp cw) (workOf e j lo)
+  was = lent (written (divisionOf c t b l) eb re bc) (net cp cw) (workOf e j lo)
 
   n : ℕ
   n = length p

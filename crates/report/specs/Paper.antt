@@ -13,7 +13,7 @@ use Rattle.game.specs.Net.{Net, net, netOf, reach}
 use Rattle.refusal.specs.Refusal.{given, first, unless, badCount, wrongLength, odd, fault, firstFault}
 use Rattle.net.specs.Damage.{damagedBy, damaged}
 use Rattle.growth.specs.Work.{workOf, badWork, zeros, cleared}
-use Rattle.partition.specs.Divide.{tables, badLimits, tooHeavy, divided, wrongTables}
+use Rattle.partition.specs.Divide.{divisionOf, badLimits, tooHeavy, divided, wrongTables}
 use Rattle.cost.specs.Figures.{edgeBlock, edgeBlocks, touches, blocksAt, different, blockCount, isCut, bound, volume, boundOf, volumeOf, totals, totalsOf}
 use Rattle.compare.specs.Compare.{wrongCompared, listRefusal, sameTable, sameNet, unlike}
 use Rattle.refusal.specs.Verdict.{accepted, refused, judged}
@@ -38,7 +38,7 @@ sevens : ℕ → List ℕ
 sevens n = replicate n 7
 
 given-tables : ℕ → Written
-given-tables k = written (tables (sevens 6) (sevens 6) (sevens 6) (sevens k)) (sevens 6) (sevens 6) (sevens 6)
+given-tables k = written (divisionOf (sevens 6) (sevens 6) (sevens 6) (sevens k)) (sevens 6) (sevens 6) (sevens 6)
 
 given-all : ℕ → Lent
 given-all k = lent (given-tables k) (net (sevens 6) (sevens 6)) (workOf (sevens 6) (sevens 6) (sevens 12))
@@ -66,19 +66,19 @@ printed =
     ended (accepted (totals 2 1))
     (cleared-with
     (written
-    (tables (3 ∷ 2 ∷ 4 ∷ 2 ∷ 2 ∷ 2 ∷ []) (2 ∷ 5 ∷ 2 ∷ 5 ∷ 5 ∷ 5 ∷ []) (0 ∷ 1 ∷ 0 ∷ 1 ∷ 1 ∷ 1 ∷ []) (4 ∷ 2 ∷ []))
+    (divisionOf (3 ∷ 2 ∷ 4 ∷ 2 ∷ 2 ∷ 2 ∷ []) (2 ∷ 5 ∷ 2 ∷ 5 ∷ 5 ∷ 5 ∷ []) (0 ∷ 1 ∷ 0 ∷ 1 ∷ 1 ∷ 1 ∷ []) (4 ∷ 2 ∷ []))
     (0 ∷ 0 ∷ 1 ∷ 1 ∷ 0 ∷ 0 ∷ []) reaches (1 ∷ 1 ∷ 1 ∷ 1 ∷ 2 ∷ 1 ∷ []))
     whole)
     ∷ ended (accepted (totals 2 2))
     (cleared-with
     (written
-    (tables (3 ∷ 2 ∷ 1 ∷ 2 ∷ 3 ∷ 3 ∷ []) (0 ∷ 5 ∷ 5 ∷ 5 ∷ 5 ∷ 5 ∷ []) (0 ∷ 1 ∷ 1 ∷ 1 ∷ 1 ∷ 1 ∷ []) (3 ∷ 3 ∷ []))
+    (divisionOf (3 ∷ 2 ∷ 1 ∷ 2 ∷ 3 ∷ 3 ∷ []) (0 ∷ 5 ∷ 5 ∷ 5 ∷ 5 ∷ 5 ∷ []) (0 ∷ 1 ∷ 1 ∷ 1 ∷ 1 ∷ 1 ∷ []) (3 ∷ 3 ∷ []))
     (0 ∷ 0 ∷ 1 ∷ 1 ∷ 1 ∷ 0 ∷ []) reaches (1 ∷ 1 ∷ 2 ∷ 1 ∷ 2 ∷ 1 ∷ []))
     whole)
     ∷ ended (accepted (totals 2 0))
     (cleared-with
     (written
-    (tables (3 ∷ 2 ∷ 4 ∷ 2 ∷ 2 ∷ 2 ∷ []) (2 ∷ 5 ∷ 2 ∷ 5 ∷ 5 ∷ 5 ∷ []) (replicate 6 0) (6 ∷ []))
+    (divisionOf (3 ∷ 2 ∷ 4 ∷ 2 ∷ 2 ∷ 2 ∷ []) (2 ∷ 5 ∷ 2 ∷ 5 ∷ 5 ∷ 5 ∷ []) (replicate 6 0) (6 ∷ []))
     (replicate 6 0) reaches (replicate 6 1))
     whole)
     ∷ ended (refused 22) (given-all 2)

@@ -9,7 +9,7 @@ ghost use lib.ListN.{length};
 ghost use Rattle.game.specs.Net.{net};
 ghost use Rattle.refusal.specs.Refusal.{wrongLength};
 ghost use Rattle.refusal.specs.Outcome.{ended};
-ghost use Rattle.partition.specs.Divide.{tables};
+ghost use Rattle.partition.specs.Divide.{divisionOf};
 ghost use Rattle.growth.specs.Work.{workOf};
 ghost use Rattle.writing.specs.Written.{written};
 ghost use Rattle.report.specs.Report.{earlyRefusal, lent, reportOutcome};
@@ -82,11 +82,11 @@ pub fn report(
 ) -> ReportAnswer
     ensures { λ r. ⌜
         ended (verdict r)
-        (lent (written (tables (now (carried .exit)) (now (top .exit)) (now (block .exit)) (now («block_loads» .exit))) (now («edge_blocks» .exit)) (now (reach .exit)) (now («block_count» .exit)))
+        (lent (written (divisionOf (now (carried .exit)) (now (top .exit)) (now (block .exit)) (now («block_loads» .exit))) (now («edge_blocks» .exit)) (now (reach .exit)) (now («block_count» .exit)))
         (net (now («compared_parents» .exit)) (now («compared_weights» .exit)))
         (workOf (now (ends .exit)) (now (jump .exit)) (now (lower .exit))))
         ≡ reportOutcome (net (now (parents .entry)) (now (weights .entry))) limit blocks (now (edges .entry))
-        (lent (written (tables (now (carried .entry)) (now (top .entry)) (now (block .entry)) (now («block_loads» .entry))) (now («edge_blocks» .entry)) (now (reach .entry)) (now («block_count» .entry)))
+        (lent (written (divisionOf (now (carried .entry)) (now (top .entry)) (now (block .entry)) (now («block_loads» .entry))) (now («edge_blocks» .entry)) (now (reach .entry)) (now («block_count» .entry)))
         (net (now («compared_parents» .entry)) (now («compared_weights» .entry)))
         (workOf (now (ends .entry)) (now (jump .entry)) (now (lower .entry)))) ⌝ }
 {

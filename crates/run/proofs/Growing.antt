@@ -15,10 +15,10 @@ use Rattle.refusal.specs.Refusal.{badCount, firstFault}
 use Rattle.refusal.specs.Verdict.{Verdict}
 use Rattle.refusal.specs.Outcome.{Outcome, ended, decided}
 use Rattle.refusal.proofs.First.{pass, first-last, right-length, even-list, unless-accepted}
-use Rattle.growth.specs.Work.{Work, workOf, Growing, growing}
+use Rattle.growth.specs.Work.{Work, workOf, NetWithWork, withWork}
 use Rattle.starting.specs.Start.{startOutcome}
 use Rattle.adding.specs.Add.{addOutcome}
-use Rattle.relabel.specs.Relabel.{relabelled, inverseOf, Tables, tables, relabelRefusal, relabelOutcome}
+use Rattle.relabel.specs.Relabel.{relabelled, inverseOf, RelabelTables, relabelTables, relabelRefusal, relabelOutcome}
 use Rattle.relabel.proofs.Relabelled.{relabelled-length, relabelled-faultless}
 use Rattle.forest.proofs.FirstList.{FirstList, first-net}
 use Rattle.files.specs.Files.{vertexCapacity}
@@ -62,12 +62,12 @@ module _ {o xs ranks p w v e j l : List ℕ} (r : Runnable o xs) (room : GrowRoo
       ∙ r .faultless
 
   -- the edges by rank
-  module _ {m : Verdict (Unit {0})} {ranks′ v′ : List ℕ} (relabels : ended m (tables ranks′ v′) ≡ relabelOutcome o xs (tables ranks v)) where
+  module _ {m : Verdict (Unit {0})} {ranks′ v′ : List ℕ} (relabels : ended m (relabelTables ranks′ v′) ≡ relabelOutcome o xs (relabelTables ranks v)) where
     by-rank : ranks′ ≡ relabelled o xs
     unfolding relabelOutcome decided
     by-rank =
-        ap (λ (t : Outcome (Unit {0}) Tables). t .tables .out) relabels
-        ∙ ap (λ (t : Tables). t .out) (unless-accepted (relabelRefusal o xs (length ranks) (length v)) (tables ranks v) (tables (relabelled o xs) (inverseOf o)) passes)
+        ap (λ (t : Outcome (Unit {0}) RelabelTables). t .tables .out) relabels
+        ∙ ap (λ (t : RelabelTables). t .out) (unless-accepted (relabelRefusal o xs (length ranks) (length v)) (relabelTables ranks v) (relabelTables (relabelled o xs) (inverseOf o)) passes)
 
     as-many : length (edges ranks′) ≡ length (edges xs)
     as-many = ranked-count r by-rank
@@ -88,10 +88,10 @@ module _ {o xs ranks p w v e j l : List ℕ} (r : Runnable o xs) (room : GrowRoo
 
     -- all calls together
     pub all-grown : {m′ m″ : Verdict (Unit {0})} {p′ w′ p″ w″ e″ j″ l″ : List ℕ} → ended m′ (net p′ w′) ≡ startOutcome (net p w)
-        → ended m″ (growing (net p″ w″) (workOf e″ j″ l″)) ≡ addOutcome (growing (net p′ w′) (workOf e j l)) ranks′
+        → ended m″ (withWork (net p″ w″) (workOf e″ j″ l″)) ≡ addOutcome (withWork (net p′ w′) (workOf e j l)) ranks′
         → Grown o xs ranks′ (net p″ w″)
     all-grown s a =
         record {
           ranked = by-rank;
-          net = ap (λ (g : Growing). g .net) (first-net first-list s a) ∙ ap₂ (λ (n : ℕ) (ys : List ℕ). netOf n (edges ys)) (room .parents) by-rank;
+          net = ap (λ (g : NetWithWork). g .net) (first-net first-list s a) ∙ ap₂ (λ (n : ℕ) (ys : List ℕ). netOf n (edges ys)) (room .parents) by-rank;
         }

@@ -11,7 +11,7 @@ use Rattle.game.specs.Edge.{edges}
 use Rattle.game.specs.Net.{Net, net}
 use Rattle.game.proofs.Edges.{edges-length}
 use Rattle.growth.specs.Work.{workOf}
-use Rattle.partition.specs.Divide.{badLimits, tables}
+use Rattle.partition.specs.Divide.{badLimits, divisionOf}
 use Rattle.packing.specs.Pack.{maxBlocks}
 use Rattle.partition.proofs.Refused.{limits-not}
 use Rattle.writing.specs.Written.{written}
@@ -87,7 +87,7 @@ module _ {o ranks : List ℕ} {B k : ℕ} {of : Net} (g : Ready o ranks B k of) 
   pub report-room : {blocks : ℕ} → blocks ≡ k
       → ReportRoom (length o) (length (edges ranks)) k
       (lent
-      (written (tables (part vertexCapacity (length o)) (part vertexCapacity (length o)) (part vertexCapacity (length o)) (part maxBlocks blocks)) (part edgeCapacity (length ranks / 2))
+      (written (divisionOf (part vertexCapacity (length o)) (part vertexCapacity (length o)) (part vertexCapacity (length o)) (part maxBlocks blocks)) (part edgeCapacity (length ranks / 2))
       (part vertexCapacity (length o)) (part vertexCapacity (length o)))
       (net (part vertexCapacity (length o)) (part vertexCapacity (length o)))
       (workOf (part vertexCapacity (length o)) (part vertexCapacity (length o)) (part (vertexCapacity + edgeCapacity) (length o + length ranks / 2))))

@@ -19,7 +19,7 @@ use Rattle.refusal.specs.Refusal.{firstFault}
 use Rattle.refusal.proofs.Fault.{proper-faultless}
 use Rattle.bucket.specs.Filed.{Filed}
 use Rattle.growth.specs.Work.{Work, workOf, cleared}
-use Rattle.partition.specs.Divide.{Tables, tables, divided}
+use Rattle.partition.specs.Divide.{DivisionTables, divisionOf, divided}
 use Rattle.packing.specs.Pack.{maxBlocks}
 use Rattle.groups.specs.Cut.{top}
 use Rattle.partition.specs.Steps.{Fitting}
@@ -38,8 +38,8 @@ use Rattle.cost.proofs.Stamps.{different-total}
 use Rattle.cost.proofs.Summed.{bound-by, volume-by}
 
 -- tables fit as long as their lengths are kept
-pub fitting-kept : {n : ℕ} {c t b l : List ℕ} → Fitting n (tables c t b l) → {c′ t′ b′ : List ℕ}
-    → length c′ ≡ length c → length t′ ≡ length t → length b′ ≡ length b → Fitting n (tables c′ t′ b′ l)
+pub fitting-kept : {n : ℕ} {c t b l : List ℕ} → Fitting n (divisionOf c t b l) → {c′ t′ b′ : List ℕ}
+    → length c′ ≡ length c → length t′ ≡ length t → length b′ ≡ length b → Fitting n (divisionOf c′ t′ b′ l)
 fitting-kept f e g h = record { carried = e ∙ f .carried; top = g ∙ f .top; block = h ∙ f .block; some = f .some; few = f .few }
 
 -- blocks below k are counted alike by any larger number
@@ -82,8 +82,8 @@ module _ (of : Net) (B k : ℕ) (some : 0 < k) (few : k ≤ maxBlocks) {es : Lis
   counts-any = tabulate-ext n (blockCount maxBlocks block es) (blockCount k block es) (λ y h. different-more k maxBlocks (blocksAt block es y) (at-below y h) few)
 
 -- once the net is divided and its reaches are written
-module _ {p w c t b l eb re bc en lo : List ℕ} {es : List Edge} {B : ℕ} (q : Reportable p w B es en lo (written (tables c t b l) eb re bc)) {c′ t′ b′ l′ re′ : List ℕ}
-    (s : Spread p w B (length l) es (tables c′ t′ b′ l′) re′) where
+module _ {p w c t b l eb re bc en lo : List ℕ} {es : List Edge} {B : ℕ} (q : Reportable p w B es en lo (written (divisionOf c t b l) eb re bc)) {c′ t′ b′ l′ re′ : List ℕ}
+    (s : Spread p w B (length l) es (divisionOf c′ t′ b′ l′) re′) where
   of : Net
   of = net p w
 
@@ -92,11 +92,11 @@ module _ {p w c t b l eb re bc en lo : List ℕ} {es : List Edge} {B : ℕ} (q :
 
   block-is : b′ ≡ divided of B k .block
   unfolding of k
-  block-is = ap (λ (d : Tables). d .block) (s .divided-so)
+  block-is = ap (λ (d : DivisionTables). d .block) (s .divided-so)
 
   top-is : t′ ≡ divided of B k .top
   unfolding of k
-  top-is = ap (λ (d : Tables). d .top) (s .divided-so)
+  top-is = ap (λ (d : DivisionTables). d .top) (s .divided-so)
 
   block-long : length b′ ≡ length p
   unfolding of
@@ -129,7 +129,7 @@ module _ {p w c t b l eb re bc en lo : List ℕ} {es : List Edge} {B : ℕ} (q :
   -- all that was written, and the answer
   pub all-answered : {eb″ bc″ jump : List ℕ} {bo vo : ℕ} {work : Work} → eb″ ≡ edgeBlocks b′ es → bc″ ≡ tabulate (length b′) (blockCount maxBlocks b′ es)
       → work ≡ cleared (workOf en jump lo) → bo ≡ boundBy p t′ re′ → vo ≡ volumeBy bc″
-      → Answered (net p w) B (length l) es (workOf en jump lo) (totals bo vo) (written (tables c′ t′ b′ l′) eb″ re′ bc″) work
+      → Answered (net p w) B (length l) es (workOf en jump lo) (totals bo vo) (written (divisionOf c′ t′ b′ l′) eb″ re′ bc″) work
   unfolding figures totalsOf boundOf volumeOf of k
   all-answered {eb″} {bc″} f g z u v = record {
     answers = ap₂ totals

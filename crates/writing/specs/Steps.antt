@@ -9,7 +9,7 @@ use Rattle.game.specs.Edge.{Edge}
 use Rattle.game.specs.Net.{Net, net, weights, reach}
 use Rattle.bucket.specs.Filed.{Filed}
 use Rattle.growth.specs.Work.{Work, cleared}
-use Rattle.partition.specs.Divide.{Tables, divided}
+use Rattle.partition.specs.Divide.{DivisionTables, divided}
 use Rattle.partition.specs.Steps.{Fitting}
 use Rattle.groups.specs.Steps.{Divisible}
 use Rattle.reach.specs.Given.{Given}
@@ -29,7 +29,7 @@ pub record Reportable (p w : List ℕ) (B : ℕ) (es : List Edge) (ends lower : 
   pub counts : length (was .blockCount) ≡ length p
 
 -- what the first step leaves
-pub record Spread (p w : List ℕ) (B k : ℕ) (es : List Edge) (division : Tables) (reaches : List ℕ) : Type 0 where
+pub record Spread (p w : List ℕ) (B k : ℕ) (es : List Edge) (division : DivisionTables) (reaches : List ℕ) : Type 0 where
   pub divided-so : division ≡ divided (net p w) B k
   pub reached : reaches ≡ tabulate (length p) (reach p es)
 

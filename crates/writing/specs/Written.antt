@@ -8,22 +8,22 @@ use lib.ListN.{length}
 use Rattle.game.specs.Table.{tabulate}
 use Rattle.game.specs.Edge.{Edge}
 use Rattle.game.specs.Net.{Net, reach}
-use Rattle.partition.specs.Divide.{Tables, divided}
+use Rattle.partition.specs.Divide.{DivisionTables, divided}
 use Rattle.cost.specs.Figures.{edgeBlocks, blockCount}
 
 -- what Report writes of a net: Divide's tables, and the figures of the edges and the vertices
 pub record Written : Type 0 where
-  pub division : Tables
+  pub division : DivisionTables
   pub edgeBlocks : List ℕ
   pub reach : List ℕ
   pub blockCount : List ℕ
 
-abbrev pub written : Tables → (edgeBlocks reach blockCount : List ℕ) → Written
+abbrev pub written : DivisionTables → (edgeBlocks reach blockCount : List ℕ) → Written
 written d e r c = record { division = d; edgeBlocks = e; reach = r; blockCount = c }
 
 -- what Report writes when it is accepted
 unfoldable pub figures : Net → ℕ → ℕ → List Edge → Written
 figures of B k es =
-    let division : Tables = divided of B k in
+    let division : DivisionTables = divided of B k in
     let n : ℕ = length (of .parents) in
     written division (edgeBlocks (division .block) es) (tabulate n (reach (of .parents) es)) (tabulate n (blockCount k (division .block) es))

@@ -7,7 +7,7 @@ ghost use mathlib.Core.List.{List};
 ghost use lib.ListN.{length};
 ghost use Rattle.game.specs.Edge.{Edge, edges as edgesOf};
 ghost use Rattle.game.specs.Net.{net};
-ghost use Rattle.partition.specs.Divide.{tables};
+ghost use Rattle.partition.specs.Divide.{divisionOf};
 ghost use Rattle.growth.specs.Work.{workOf};
 ghost use Rattle.writing.specs.Written.{written};
 ghost use Rattle.writing.specs.Steps.{Reportable, Spread, Answered};
@@ -29,11 +29,11 @@ fn divide_and_reach(
     block_count: &mut [u32],
 )
     requires { ⌜ ((es : List Edge) × Reportable (now parents) (now weights) limit es (now ends) (now lower)
-        (written (tables (now carried) (now top) (now block) (now «block_loads»)) (now «edge_blocks») (now reach) (now «block_count»))) ⌝ }
+        (written (divisionOf (now carried) (now top) (now block) (now «block_loads»)) (now «edge_blocks») (now reach) (now «block_count»))) ⌝ }
     ensures { λ _. ⌜ ((es : List Edge) → Reportable (now (parents .entry)) (now (weights .entry)) limit es (now (ends .entry)) (now (lower .entry))
-        (written (tables (now (carried .entry)) (now (top .entry)) (now (block .entry)) (now («block_loads» .entry))) (now («edge_blocks» .entry)) (now (reach .entry)) (now («block_count» .entry)))
+        (written (divisionOf (now (carried .entry)) (now (top .entry)) (now (block .entry)) (now («block_loads» .entry))) (now («edge_blocks» .entry)) (now (reach .entry)) (now («block_count» .entry)))
         → Spread (now (parents .entry)) (now (weights .entry)) limit (length (now («block_loads» .entry))) es
-        (tables (now (carried .exit)) (now (top .exit)) (now (block .exit)) (now («block_loads» .exit))) (now (reach .exit))) ⌝ }
+        (divisionOf (now (carried .exit)) (now (top .exit)) (now (block .exit)) (now («block_loads» .exit))) (now (reach .exit))) ⌝ }
 {
     reaches(
         parents,
@@ -69,10 +69,10 @@ pub fn write_report(
     lower: &mut [u32],
 ) -> Totals
     requires { ⌜ Reportable (now parents) (now weights) limit (edgesOf (now edges)) (now ends) (now lower)
-        (written (tables (now carried) (now top) (now block) (now «block_loads»)) (now «edge_blocks») (now reach) (now «block_count»)) ⌝ }
+        (written (divisionOf (now carried) (now top) (now block) (now «block_loads»)) (now «edge_blocks») (now reach) (now «block_count»)) ⌝ }
     ensures { λ r. ⌜ Answered (net (now (parents .entry)) (now (weights .entry))) limit (length (now («block_loads» .entry))) (edgesOf (now (edges .entry)))
         (workOf (now (ends .entry)) (now (jump .entry)) (now (lower .entry))) r
-        (written (tables (now (carried .exit)) (now (top .exit)) (now (block .exit)) (now («block_loads» .exit))) (now («edge_blocks» .exit)) (now (reach .exit)) (now («block_count» .exit)))
+        (written (divisionOf (now (carried .exit)) (now (top .exit)) (now (block .exit)) (now («block_loads» .exit))) (now («edge_blocks» .exit)) (now (reach .exit)) (now («block_count» .exit)))
         (workOf (now (ends .exit)) (now (jump .exit)) (now (lower .exit))) ⌝ }
 {
     divide_and_reach(

@@ -6,7 +6,7 @@ use Rattle.report.proofs.Refused.{wrong-lengths, lengths-right, ready}
 use Rattle.report.proofs.Outcome.{ends-early, ends-late, write-ready, ends-accepted}
 use mathlib.Core.Path.{refl, sym, ap, _∙_}
 use borrow.Author.Tests.{not-true, not-false}
-use Rattle.partition.specs.Divide.{tables}
+use Rattle.partition.specs.Divide.{divisionOf}
 use Rattle.game.specs.Net.{net}
 use Rattle.growth.specs.Work.{workOf}
 use Rattle.growth.proofs.Rooms.{same-room}
@@ -38,7 +38,7 @@ returns c = ends-early _ _ _ _ _ (c .before .early-refusal .ensures) (wrong-leng
 
 compare-requires : tie.Need-compare-requires
 compare-requires c κs =
-    ready _ _ _ _ (lent (written (tables (c .before .before .before .before .before .before .before .before .before .before .before .before .before .before .before .before .before .before .before .before .before .before .before .before .before .before .args .carried .now) (c .before .before .before .before .before .before .before .before .before .before .before .before .before .before .before .before .before .before .before .before .before .before .before .before .before .before .args .top .now) (c .before .before .before .before .before .before .before .before .before .before .before .before .before .before .before .before .before .before .before .before .before .before .before .before .before .before .args .block .now) (c .before .before .before .before .before .before .before .before .before .before .before .before .before .before .before .before .before .before .before .before .before .before .before .before .before .before .args .block-loads .now)) (c .before .before .before .before .before .before .before .before .before .before .before .before .before .before .before .before .before .before .before .before .before .before .before .before .before .before .args .edge-blocks .now) (c .before .before .before .before .before .before .before .before .before .before .before .before .before .before .before .before .before .before .before .before .before .before .before .before .before .before .args .reach .now) (c .before .before .before .before .before .before .before .before .before .before .before .before .before .before .before .before .before .before .before .before .before .before .before .before .before .before .args .block-count .now)) _ _)
+    ready _ _ _ _ (lent (written (divisionOf (c .before .before .before .before .before .before .before .before .before .before .before .before .before .before .before .before .before .before .before .before .before .before .before .before .before .before .args .carried .now) (c .before .before .before .before .before .before .before .before .before .before .before .before .before .before .before .before .before .before .before .before .before .before .before .before .before .before .args .top .now) (c .before .before .before .before .before .before .before .before .before .before .before .before .before .before .before .before .before .before .before .before .before .before .before .before .before .before .args .block .now) (c .before .before .before .before .before .before .before .before .before .before .before .before .before .before .before .before .before .before .before .before .before .before .before .before .before .before .args .block-loads .now)) (c .before .before .before .before .before .before .before .before .before .before .before .before .before .before .before .before .before .before .before .before .before .before .before .before .before .before .args .edge-blocks .now) (c .before .before .before .before .before .before .before .before .before .before .before .before .before .before .before .before .before .before .before .before .before .before .before .before .before .before .args .reach .now) (c .before .before .before .before .before .before .before .before .before .before .before .before .before .before .before .before .before .before .before .before .before .before .before .before .before .before .args .block-count .now)) _ _)
     (sym (c .before .before .before .before .before .before .early-refusal .ensures ∙ ap (earlyRefusal _ _ _ _) (wrong-lengths _ _ _ _ _ _ _ _ _ _ _ _ _ _ _ _ (c .before .before .before .before .before .before .before .before .before .before .wide .ensures) (c .before .before .before .before .before .before .before .before .before .wrong-tables .ensures) (c .before .before .before .before .before .before .before .before .wrong-figures .ensures) (c .before .before .before .before .before .before .before .wrong-compared .ensures))) ∙ c .before .before .before .before .before .if1 .left) .compares
 
 same-length : tie.Need-same-length
