@@ -1,14 +1,14 @@
 -- The net of a list of edges, grown into tables that held anything, and compared.
 -- Assumes nothing.
-use mathlib.Core.Path.{_≡_, refl, sym, ap, ap₂, subst, _∙_}
+use mathlib.Core.Path.{_≡_, sym, ap, ap₂, subst, _∙_}
 use mathlib.Core.Bool.{Bool, true, false, true≢false}
 use mathlib.Core.List.{List}
-use Prim.Native.Nat.{ℕ, _+_, _^_, _≤_, _<_}
+use Prim.Native.Nat.{ℕ, _^_, _<_}
 use native.Mathlib.Omega.{arith}
 use lib.ListN.{length, getD, replicate, length-replicate, getD-replicate}
 use Rattle.game.specs.Table.{tabulate}
-use Rattle.game.specs.Edge.{Edge, edges}
-use Rattle.game.specs.Game.{absent, forest}
+use Rattle.game.specs.Edge.{edges}
+use Rattle.game.specs.Game.{absent}
 use Rattle.game.specs.Net.{Net, net, netOf, weight, weights}
 use Rattle.game.proofs.Tables.{tabulate-ext}
 use Rattle.game.proofs.Forest.{forest-length}
@@ -18,7 +18,6 @@ use Rattle.bucket.specs.Filed.{Filed}
 use Rattle.bucket.proofs.Below.{ending-weight}
 use Rattle.bucket.proofs.Reading.{filed-consecutive}
 use Rattle.bucket.proofs.Tallied.{tallied-zeros}
-use Rattle.refusal.specs.Refusal.{firstFault}
 use Rattle.growth.specs.Work.{Work, workOf, cleared}
 use Rattle.growth.specs.Growth.{Growable, Light, Grown}
 use Rattle.growth.proofs.NewParents.{links-blank}

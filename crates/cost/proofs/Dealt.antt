@@ -5,21 +5,21 @@ use mathlib.Core.Path.{_≡_, refl, sym, ap, ap₂, _∙_}
 use mathlib.Core.Logic.{⊎-elim}
 use mathlib.Core.Bool.{Bool, true, false, cond}
 use mathlib.Core.List.{List, [], _∷_, _++_, map, List·Memᴰ, List·Memᴰ·head, List·Memᴰ·tail, List·Memᴰ·not-nil, List·Memᴰ·cases-cons, List·Memᴰ·append-cases, Memᴰ·append-left, Memᴰ·append-right, List·Permᴰ, List·Permᴰ·nil, List·Permᴰ·cons, List·Permᴰ·swap, List·Permᴰ·trans}
-use Prim.Native.Nat.{ℕ, _+_, _≤_, _<_}
+use Prim.Native.Nat.{ℕ, _+_, _<_}
 use native.Mathlib.Nat.{zero-add}
 use native.Mathlib.Omega.{arith}
 use lib.Dec.{eqb}
 use borrow.Author.Tests.{eq-eqb}
 use Rattle.game.specs.Table.{sum, filtered}
 use Rattle.game.specs.Edge.{Edge}
-use Rattle.game.specs.Net.{Net, net, owner, charge, weight, weights, charges, netOf}
+use Rattle.game.specs.Net.{net, owner, charge, weight, weights, charges, netOf}
 use Rattle.game.specs.Graph.{Linked, forth, back, Proper}
 use Rattle.game.proofs.Tables.{tabulate-ext}
 use Rattle.game.proofs.Weights.{sum-map-append}
 use Rattle.game.proofs.Within.{within-linked}
 use Rattle.game.proofs.Forest.{forest-same}
-use Rattle.groups.proofs.Lists.{test-cases, stretch, stretch-in, in-stretch, sum-nought, sum-agree}
-use Rattle.groups.proofs.Sums.{only, total, total-add, total-filtered, total-here}
+use Rattle.groups.proofs.Lists.{test-cases, stretch, in-stretch, sum-nought, sum-agree}
+use Rattle.groups.proofs.Sums.{only, total, total-add, total-here}
 use Rattle.cost.proofs.Blocks.{filtered-in, in-filtered}
 
 perm-total : {xs ys : List ℕ} (f : ℕ → ℕ) → List·Permᴰ xs ys → total xs f ≡ total ys f

@@ -3,30 +3,30 @@
 -- Assumes nothing.
 use mathlib.Core.Path.{_≡_, refl, sym, ap, ap₂, subst, _∙_}
 use mathlib.Core.Logic.{⊎-elim}
-use mathlib.Core.Bool.{Bool, true, false, _&&_}
-use mathlib.Core.List.{List, [], _∷_, _++_, map, List·Memᴰ, List·Memᴰ·head, List·Memᴰ·tail, List·Memᴰ·not-nil, List·Memᴰ·cases-cons, List·Permᴰ}
+use mathlib.Core.Bool.{Bool, true, _&&_}
+use mathlib.Core.List.{List, [], _∷_, map, List·Memᴰ, List·Memᴰ·head, List·Memᴰ·tail, List·Memᴰ·not-nil, List·Memᴰ·cases-cons, List·Permᴰ}
 use Prim.Native.Nat.{ℕ, zero, suc, _+_, _≤_, _<_}
 use native.Mathlib.Nat.{min-le-left}
 use native.Mathlib.Omega.{arith}
 use lib.Dec.{eqb}
 use lib.ListN.{length, getD}
 use Rattle.game.specs.Table.{tabulate}
-use Rattle.game.specs.Edge.{Edge, _─_, lower, edges}
+use Rattle.game.specs.Edge.{Edge, _─_, lower}
 use Rattle.game.specs.Graph.{forth, Proper}
-use Rattle.game.specs.Game.{absent, forest}
-use Rattle.game.specs.Net.{Net, net as netFrom, owner, weight, weights, charges, total, netOf}
+use Rattle.game.specs.Game.{forest}
+use Rattle.game.specs.Net.{Net, owner, weight, weights, charges, total, netOf}
 use Rattle.game.proofs.Proper.{proper-nil, proper-append}
-use Rattle.game.proofs.Weights.{weights-entry, weights-charges, weights-length, charges-append, charges-count}
+use Rattle.game.proofs.Weights.{weights-entry, weights-charges, charges-append, charges-count}
 use Rattle.game.proofs.Forest.{forest-length}
 use Rattle.refusal.specs.Limits.{maxVertices, maxTotal}
 use Rattle.refusal.specs.Refusal.{unless, firstFault}
 use Rattle.refusal.specs.Verdict.{isAccepted, judged}
-use Rattle.refusal.specs.Outcome.{Done, done, decided}
+use Rattle.refusal.specs.Outcome.{done, decided}
 use Rattle.refusal.proofs.Fault.{proper-faultless}
 use Rattle.growth.specs.Work.{NetWithWork, withWork, badWork}
 use Rattle.starting.specs.Start.{startRefusal, startOutcome}
 use Rattle.adding.specs.Add.{grown, addRefusal, addOutcome}
-use Rattle.joining.specs.Join.{joined, joinRefusal, joinOutcome}
+use Rattle.joining.specs.Join.{joinRefusal, joinOutcome}
 use Rattle.joining.proofs.Accepted.{Joinable}
 use Rattle.adding.proofs.Accepted.{Addable}
 use Rattle.growth.proofs.Whole.{room}

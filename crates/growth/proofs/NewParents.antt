@@ -2,18 +2,16 @@
 -- whole table in the end, if the old links were among the edges.
 -- Assumes nothing.
 use mathlib.Core.Path.{_≡_, refl, sym, ap, subst, _∙_}
-use mathlib.Core.Logic.{_≢_, inl, inr, ⊎-elim, by-cases}
-use mathlib.Core.Bool.{Bool, true, cond}
-use mathlib.Core.List.{List, _++_, List·Memᴰ}
+use mathlib.Core.Logic.{_≢_, by-cases}
+use mathlib.Core.Bool.{Bool, cond}
+use mathlib.Core.List.{List, _++_}
 use Prim.Native.Nat.{ℕ, _≤_, _<_}
 use native.Mathlib.Decide.{ℕ-discrete}
 use native.Mathlib.Omega.{arith}
-use lib.Dec.{eqb}
 use lib.ListN.{length, getD, set, replicate, length-set, length-replicate, getD-replicate}
 use lib.Seq.{getD-set-same, getD-set-other, ext-getD}
 use borrow.Author.Tests.{eq-eqb, ne-eqb}
-use Rattle.game.specs.Table.{tabulate, member}
-use Rattle.game.specs.Edge.{Edge, _─_}
+use Rattle.game.specs.Edge.{Edge}
 use Rattle.game.specs.Game.{absent, forest}
 use Rattle.game.specs.Tree.{links, ancestors}
 use Rattle.game.specs.Graph.{Linked, forth, Proper}

@@ -1,19 +1,15 @@
 -- After an accepted start, add, join or read no call refuses the net with 30.
 -- Assumes nothing.
 use mathlib.Core.Path.{_≡_, refl, sym, subst}
-use mathlib.Core.Bool.{Bool, true, false, false≢true}
-use mathlib.Core.Option.{Option, none, some}
+use mathlib.Core.Bool.{true, false, false≢true}
+use mathlib.Core.Option.{none, some}
 use Prim.Native.Nat.{ℕ}
 use native.Mathlib.Omega.{arith}
 use Rattle.game.specs.Net.{Net}
 use Rattle.refusal.specs.Verdict.{Verdict, accepted, refused, isAccepted}
-use Rattle.growth.specs.Work.{NetWithWork, withWork}
-use Rattle.starting.specs.Start.{startOutcome}
-use Rattle.adding.specs.Add.{addOutcome}
-use Rattle.joining.specs.Join.{joinOutcome}
+use Rattle.growth.specs.Work.{withWork}
 use Rattle.forest.specs.Promise.{Valid}
 use Rattle.forest.proofs.Promise.{start-valid, add-valid, join-valid, add-not-30, join-not-30}
-use Rattle.reading.specs.Read.{readOutcome}
 use Rattle.linkfile.proofs.RoundTrip.{read-valid, save-not-30}
 use Rattle.partition.proofs.Division.{divide-not-30}
 use Rattle.report.proofs.Own.{report-not-30}

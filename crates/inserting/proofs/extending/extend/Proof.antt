@@ -1,8 +1,6 @@
 use mathlib.Core.Path.{refl, sym, ap, _∙_}
 use Prim.Native.Nat.{ℕ}
-use lib.ListN.{replicate}
 use Rattle.game.specs.Edge.{edges as edgesOf}
-use Rattle.game.specs.Game.{absent}
 use Rattle.refusal.specs.Refusal.{firstFault}
 use Rattle.bucket.proofs.Reading.{filed-consecutive}
 use Rattle.growth.proofs.NewParents.{links-blank}
