@@ -23,7 +23,8 @@ use Rattle.growth.specs.Growth.{Growable, Light, Grown}
 use Rattle.growth.proofs.NewParents.{links-blank}
 use Rattle.growth.proofs.Regrown.{grown-filed}
 use Rattle.compare.specs.Compare.{sameNet}
-use Rattle.compare.specs.Steps.{ListFits, GrowsNet, Comparable, Compared}
+use Rattle.growth.specs.Lists.{ListFits}
+use Rattle.compare.specs.Steps.{GrowsNet, Comparable, Compared}
 
 -- tables of a size that fits, blank, and the edges filed: a forest can be grown
 module _ {xs p w e j l : List ℕ} (c : ListFits xs (net p w) (workOf e j l)) {p′ w′ e′ l′ : List ℕ} (blank : p′ ≡ replicate (length p) absent)

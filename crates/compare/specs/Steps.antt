@@ -3,27 +3,16 @@
 use mathlib.Core.Path.{_≡_}
 use mathlib.Core.Bool.{Bool, true, false}
 use mathlib.Core.List.{List}
-use Prim.Native.Nat.{ℕ, _+_, _≤_}
+use Prim.Native.Nat.{ℕ}
 use lib.ListN.{length}
 use Rattle.game.specs.Edge.{Edge, edges}
 use Rattle.game.specs.Net.{Net, netOf}
-use Rattle.refusal.specs.Limits.{maxVertices, maxEdges}
-use Rattle.refusal.specs.Refusal.{firstFault}
 use Rattle.bucket.specs.Filed.{Filed}
 use Rattle.growth.specs.Work.{Work, cleared}
+use Rattle.growth.specs.Lists.{ListFits}
 use Rattle.compare.specs.Compare.{sameNet}
 
--- what growing is given: a list of edges without a fault, within document 01's limits, and tables that fit
-pub record ListFits (xs : List ℕ) (lent : Net) (work : Work) : Type 0 where
-  pub vertices : length (lent .parents) ≤ maxVertices
-  pub few : length (edges xs) ≤ maxEdges
-  pub faultless : firstFault (length (lent .parents)) (edges xs) ≡ 0
-  pub weights : length (lent .weights) ≡ length (lent .parents)
-  pub ends : length (work .ends) ≡ length (lent .parents)
-  pub jump : length (work .jump) ≡ length (lent .parents)
-  pub lower : length (work .lower) ≡ length (lent .parents) + length (edges xs)
-
--- what it leaves: the net of the edges, which stay filed
+-- what growing the net of a list leaves: that net, and the edges, which stay filed
 pub record GrowsNet (xs : List ℕ) (lent grown : Net) (work : Work) : Type 0 where
   pub is : grown ≡ netOf (length (lent .parents)) (edges xs)
   pub filed : Filed (length (lent .parents)) (edges xs) (work .ends) (work .lower)

@@ -9,7 +9,8 @@ ghost use Rattle.game.specs.Net.{net};
 ghost use Rattle.refusal.specs.Refusal.{wrongLength};
 ghost use Rattle.growth.specs.Work.{workOf};
 ghost use Rattle.compare.specs.Compare.{sameTable, sameNet, listRefusal};
-ghost use Rattle.compare.specs.Steps.{ListFits, GrowsNet, Comparable, Compared};
+ghost use Rattle.growth.specs.Lists.{ListFits};
+ghost use Rattle.compare.specs.Steps.{GrowsNet, Comparable, Compared};
 
 // Refusal 2 of the comparison tables and the work tables, by their lengths: n vertices, and `both` for vertices and edges together.
 pub fn wrong_compared(

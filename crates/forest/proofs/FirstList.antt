@@ -3,7 +3,7 @@
 -- Assumes nothing.
 use mathlib.Core.Path.{_≡_, sym, ap, _∙_}
 use mathlib.Core.List.{List, []}
-use Prim.Native.Nat.{ℕ, _+_, _%_, _≤_, _<_}
+use Prim.Native.Nat.{ℕ, _+_, _%_, _<_}
 use native.Mathlib.Omega.{arith}
 use lib.ListN.{length}
 use Rattle.game.specs.Edge.{Edge, edges}
@@ -11,11 +11,11 @@ use Rattle.game.specs.Net.{Net, net, netOf, total}
 use Rattle.game.proofs.Proper.{proper-nil}
 use Rattle.game.proofs.Forest.{forest-length}
 use Rattle.game.proofs.Weights.{weights-charges, charges-count}
-use Rattle.refusal.specs.Limits.{maxVertices, maxEdges}
 use Rattle.refusal.specs.Refusal.{firstFault}
 use Rattle.refusal.specs.Verdict.{Verdict}
 use Rattle.refusal.specs.Outcome.{Outcome, ended, decided}
 use Rattle.refusal.proofs.First.{even-list, unless-accepted}
+use Rattle.growth.specs.Lists.{ListFits}
 use Rattle.growth.specs.Work.{Work, workOf, withWork, cleared}
 use Rattle.starting.specs.Start.{startRefusal, startOutcome}
 use Rattle.adding.specs.Add.{addOutcome}
@@ -24,17 +24,11 @@ use Rattle.forest.proofs.Passes.{start-passes, add-passes}
 use Rattle.forest.proofs.Promise.{valid-whole, net-valid}
 use Rattle.forest.proofs.Laws.{grown-net}
 
--- a list without a fault, within document 01's limits, and tables that fit
+-- a list that fits, of whole edges, for some vertices
 pub record FirstList (xs : List ℕ) (lent : Net) (work : Work) : Type 0 where
+  pub fits : ListFits xs lent work
   pub some : 0 < length (lent .parents)
-  pub vertices : length (lent .parents) ≤ maxVertices
   pub even : length xs % 2 ≡ 0
-  pub few : length (edges xs) ≤ maxEdges
-  pub faultless : firstFault (length (lent .parents)) (edges xs) ≡ 0
-  pub weights : length (lent .weights) ≡ length (lent .parents)
-  pub ends : length (work .ends) ≡ length (lent .parents)
-  pub jump : length (work .jump) ≡ length (lent .parents)
-  pub lower : length (work .lower) ≡ length (lent .parents) + length (edges xs)
 
 -- what an accepted call leaves
 accepted-tables : {X A : Type 0} (k : ℕ) (values : X) (was new : A) {v : Verdict X} {t : A} → ended v t ≡ decided k values was new → k ≡ 0 → t ≡ new
@@ -53,14 +47,14 @@ blank-total n = weights-charges (proper-nil n) ∙ charges-count []
 blank-addable : {xs : List ℕ} {lent : Net} {work : Work} → FirstList xs lent work → Addable (withWork (netOf (length (lent .parents)) []) work) xs
 blank-addable {xs} {lent} {work} c =
     let n = length (lent .parents) in
-    let v = net-valid (c .some) (c .vertices) (proper-nil n) (omega (arith, charges-count [])) in
+    let v = net-valid (c .some) (c .fits .vertices) (proper-nil n) (omega (arith, charges-count [])) in
     let vertices = net-vertices n [] in
     record {
       net = valid-whole v;
-      work = record { ends = c .ends ∙ sym vertices; jump = c .jump ∙ sym vertices; lower = c .lower ∙ ap (λ (m : ℕ). m + length (edges xs)) (sym vertices) };
+      work = record { ends = c .fits .ends ∙ sym vertices; jump = c .fits .jump ∙ sym vertices; lower = c .fits .lower ∙ ap (λ (m : ℕ). m + length (edges xs)) (sym vertices) };
       even = even-list xs (c .even);
-      faultless = ap (λ (m : ℕ). firstFault m (edges xs)) vertices ∙ c .faultless;
-      light = omega (arith, blank-total n, charges-count (edges xs), c .few);
+      faultless = ap (λ (m : ℕ). firstFault m (edges xs)) vertices ∙ c .fits .faultless;
+      light = omega (arith, blank-total n, charges-count (edges xs), c .fits .few);
     }
 
 -- starting, then adding
@@ -68,7 +62,7 @@ module _ {p w xs e j l : List ℕ} (c : FirstList xs (net p w) (workOf e j l)) w
   started : {m : Verdict (Unit {0})} {p′ w′ : List ℕ} → ended m (net p′ w′) ≡ startOutcome (net p w) → net p′ w′ ≡ netOf (length p) []
   unfolding startOutcome
   started o =
-      accepted-tables (startRefusal (net p w)) tt (net p w) (netOf (length p) []) o (start-passes (record { some = c .some; few = c .vertices; long = c .weights }))
+      accepted-tables (startRefusal (net p w)) tt (net p w) (netOf (length p) []) o (start-passes (record { some = c .some; few = c .fits .vertices; long = c .fits .weights }))
 
   pub first-net : {m m′ : Verdict (Unit {0})} {p′ w′ p″ w″ e″ j″ l″ : List ℕ} → ended m (net p′ w′) ≡ startOutcome (net p w)
       → ended m′ (withWork (net p″ w″) (workOf e″ j″ l″)) ≡ addOutcome (withWork (net p′ w′) (workOf e j l)) xs
@@ -76,4 +70,4 @@ module _ {p w xs e j l : List ℕ} (c : FirstList xs (net p w) (workOf e j l)) w
   unfolding addOutcome
   first-net s a =
       accepted-tables _ _ _ _ (a ∙ ap (λ (of : Net). addOutcome (withWork of (workOf e j l)) xs) (started s)) (add-passes (blank-addable c))
-      ∙ ap (λ (of : Net). withWork of (cleared (workOf e j l))) (grown-net (edges xs) (omega (arith, c .vertices)) (proper-nil (length p)))
+      ∙ ap (λ (of : Net). withWork of (cleared (workOf e j l))) (grown-net (edges xs) (omega (arith, c .fits .vertices)) (proper-nil (length p)))

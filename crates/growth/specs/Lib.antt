@@ -1,3 +1,4 @@
 -- The work tables, and what growing a forest promises.
 pub mod Work
 pub mod Growth
+pub mod Lists

@@ -75,15 +75,17 @@ module _ {o xs ranks p w v e j l : List ℕ} (r : Runnable o xs) (room : GrowRoo
     first-list : FirstList ranks′ (net p w) (workOf e j l)
     first-list =
         record {
+          fits = record {
+            vertices = omega (arith, r .vertices, room .parents);
+            few = omega (arith, r .few, as-many);
+            faultless = ap (λ (n : ℕ). firstFault n (edges ranks′)) (room .parents) ∙ ranked-faultless r by-rank;
+            weights = room .weights ∙ sym (room .parents);
+            ends = own .ends ∙ sym (room .parents);
+            jump = own .jump ∙ sym (room .parents);
+            lower = own .lower ∙ ap₂ (λ (n m : ℕ). n + m) (sym (room .parents)) (sym as-many);
+          };
           some = omega (arith, r .some, room .parents);
-          vertices = omega (arith, r .vertices, room .parents);
           even = ranked-even r by-rank;
-          few = omega (arith, r .few, as-many);
-          faultless = ap (λ (n : ℕ). firstFault n (edges ranks′)) (room .parents) ∙ ranked-faultless r by-rank;
-          weights = room .weights ∙ sym (room .parents);
-          ends = own .ends ∙ sym (room .parents);
-          jump = own .jump ∙ sym (room .parents);
-          lower = own .lower ∙ ap₂ (λ (n m : ℕ). n + m) (sym (room .parents)) (sym as-many);
         }
 
     -- all calls together
