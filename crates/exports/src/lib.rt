@@ -1,4 +1,4 @@
-// The interface for C and for the languages that call C (include/niqastul.h): each call of document 01 under a name of its own, with
+// The interface for C and for the languages that call C (include/niqastul.h): each call under a name of its own, with
 // its answer as a number, 0 if it was accepted. A table passes as a pointer and a length. Nothing is checked at this boundary, so no
 // function here asks anything of its caller that its types do not say: tables are readable or writable over their length, and one
 // that is written overlaps no other.
@@ -13,6 +13,9 @@ ghost use Rattle.saving.specs.Save.{saveOutcome};
 ghost use Rattle.reading.specs.Read.{readOutcome};
 ghost use Rattle.partition.specs.Divide.{divisionOf, divideOutcome};
 ghost use Rattle.relabel.specs.Relabel.{relabelTables, relabelOutcome};
+ghost use Rattle.indexing.specs.Index.{index};
+ghost use Rattle.indexing.specs.Build.{indexOutcome};
+ghost use Rattle.querying.specs.Query.{place, queryPlace};
 ghost use Rattle.writing.specs.Written.{written};
 ghost use Rattle.report.specs.Report.{lent, reportOutcome};
 ghost use Rattle.cost.specs.Figures.{totals};
@@ -187,4 +190,35 @@ pub extern "C" fn niqastul_report(
         }
         ReportAnswer::Refused(why) => why,
     }
+}
+
+#[no_mangle]
+pub extern "C" fn niqastul_index(
+    old_edges: &[u32],
+    added: &[u32],
+    starts: &mut [u32],
+    neighbours: &mut [u32],
+) -> u32
+    ensures { λ r. ⌜
+        returned r (index (now (starts .exit)) (now (neighbours .exit)))
+        ≡ handed (indexOutcome (index (now (starts .entry)) (now (neighbours .entry))) (now («old_edges» .entry)) (now (added .entry))) ⌝ }
+{
+    refusal::code(indexing::index(old_edges, added, starts, neighbours))
+}
+
+// The part of the index that a query hands back is told by its place and its length.
+#[no_mangle]
+pub extern "C" fn niqastul_query(
+    starts: &[u32],
+    neighbours: &[u32],
+    rank: u32,
+    first: &mut u64,
+    count: &mut u64,
+) -> u32
+    ensures { λ r. ⌜ place r (now (first .exit)) (now (count .exit)) ≡ queryPlace (index (now (starts .entry)) (now (neighbours .entry))) rank ⌝ }
+{
+    let part = querying::locate(starts, neighbours, rank);
+    *first = table::amount(part.first);
+    *count = table::amount(part.count);
+    part.number
 }

@@ -13,7 +13,7 @@ use Rattle.forest.proofs.Promise.{start-valid, add-valid, join-valid, add-not-3
 use Rattle.linkfile.proofs.RoundTrip.{read-valid, save-not-30}
 use Rattle.partition.proofs.Division.{divide-not-30}
 use Rattle.report.proofs.Own.{report-not-30}
-use Rattle.history.specs.World.{World, Call, start, add, join, save, read, relabel, divide, report, update, step, stepped}
+use Rattle.history.specs.World.{World, Call, start, add, join, save, read, relabel, divide, report, index, query, update, step, stepped}
 use Rattle.history.specs.Sound.{written, Never30}
 use Rattle.history.proofs.Update.{update-here}
 
@@ -51,6 +51,8 @@ written-valid w (read i f) j e a = put (w .nets) i j _ e (read-valid (w .nets i)
 written-valid w (relabel order xs tables) j e a = absurd (nothing e)
 written-valid w (divide i B k tables) j e a = absurd (nothing e)
 written-valid w (report i B k xs tables) j e a = absurd (nothing e)
+written-valid w (index old more tables) j e a = absurd (nothing e)
+written-valid w (query tables rank) j e a = absurd (nothing e)
 
 pub accepted-never-30 : (w : World) (c : Call) (i : ℕ) → written c ≡ some i → step w c .accepted ≡ true → Never30 (step w c .world .nets i)
 accepted-never-30 w c i e a = valid-never-30 (written-valid w c i e a)

@@ -7,6 +7,7 @@ use mathlib.Core.List.{List, [], _++_}
 use mathlib.Core.Option.{Option, none, some, Option·none-ne-some}
 use Prim.Native.Nat.{ℕ, zero, suc, _≤_, _<_}
 use native.Mathlib.Omega.{arith}
+use lib.Dec.{eqb}
 use lib.ListN.{length}
 use Rattle.game.specs.Edge.{Edge, edges}
 use Rattle.game.specs.Game.{absent}
@@ -36,9 +37,11 @@ use Rattle.saving.proofs.Accepted.{save-accepted}
 use Rattle.reading.specs.Read.{readRefusal, readOutcome}
 use Rattle.linkfile.proofs.RoundTrip.{file-net, undamaged-parents, undamaged-weights}
 use Rattle.relabel.specs.Relabel.{relabelOutcome}
+use Rattle.indexing.specs.Build.{indexOutcome}
+use Rattle.querying.specs.Query.{queryOutcome}
 use Rattle.partition.specs.Divide.{divideOutcome}
 use Rattle.report.specs.Report.{reportOutcome}
-use Rattle.history.specs.World.{World, Call, start, add, join, save, read, relabel, divide, report, update, withNet, withFile, step, stepped}
+use Rattle.history.specs.World.{World, Call, start, add, join, save, read, relabel, divide, report, index, query, update, withNet, withFile, step, stepped}
 use Rattle.history.specs.Book.{NetRecord, FileRecord, Book, Entry, entry, enter, note, behind, savedRecord, loadedRecord, started, added, joined as entered, saved, loaded, passed}
 use Rattle.history.proofs.Update.{update-both, update-same}
 
@@ -229,3 +232,5 @@ step-keeps {w} {b} (read i f) v =
 step-keeps {w} {b} (relabel order xs tables) v = subst (Kept w) (sym (note-passed b (isAccepted (relabelOutcome order xs tables .verdict)))) v
 step-keeps {w} {b} (divide i B k tables) v = subst (Kept w) (sym (note-passed b (isAccepted (divideOutcome (w .nets i) B k tables .verdict)))) v
 step-keeps {w} {b} (report i B k xs tables) v = subst (Kept w) (sym (note-passed b (isAccepted (reportOutcome (w .nets i) B k xs tables .verdict)))) v
+step-keeps {w} {b} (index old more tables) v = subst (Kept w) (sym (note-passed b (isAccepted (indexOutcome tables old more .verdict)))) v
+step-keeps {w} {b} (query tables rank) v = subst (Kept w) (sym (note-passed b (eqb (queryOutcome tables rank .cell) 0))) v

@@ -9,7 +9,7 @@ use mathlib.Core.List.{List, [], _++_}
 use mathlib.Core.Option.{Option, none, some}
 use Prim.Native.Nat.{ℕ}
 use Rattle.game.specs.Edge.{Edge, edges}
-use Rattle.history.specs.World.{Call, start, add, join, save, read, relabel, divide, report, update}
+use Rattle.history.specs.World.{Call, start, add, join, save, read, relabel, divide, report, index, query, update}
 
 -- what is kept of a net with a list: its edges
 pub record NetRecord : Type 0 where
@@ -42,6 +42,8 @@ entry (read i f) = loaded i f
 entry (relabel order xs tables) = passed
 entry (divide i B k tables) = passed
 entry (report i B k xs tables) = passed
+entry (index old more tables) = passed
+entry (query tables rank) = passed
 
 -- a list behind a list; none, if either is none
 unfoldable pub behind : Option NetRecord → Option NetRecord → Option NetRecord

@@ -14,7 +14,7 @@ use Rattle.forest.specs.Promise.{Valid}
 use Rattle.saving.specs.Save.{saveOutcome}
 use Rattle.partition.specs.Divide.{DivisionTables, divideOutcome}
 use Rattle.report.specs.Report.{Lent, reportOutcome}
-use Rattle.history.specs.World.{Call, start, add, join, save, read, relabel, divide, report}
+use Rattle.history.specs.World.{Call, start, add, join, save, read, relabel, divide, report, index, query}
 
 -- the net that a call writes when it is accepted
 unfoldable pub written : Call → Option ℕ
@@ -26,6 +26,8 @@ written (read i f) = some i
 written (relabel order xs tables) = none
 written (divide i B k tables) = none
 written (report i B k xs tables) = none
+written (index old more tables) = none
+written (query tables rank) = none
 
 -- whatever else a call is lent
 pub record Never30 (of : Net) : Type 0 where

@@ -4,7 +4,8 @@
 -- Document 01, The book of ties: "The list holds starting, adding, joining, saving and reading, accepted or refused, in any mix, over
 -- any number of nets and link files (the bytes lent to a save or a reading). Each net and file has tables of its own, of any length;
 -- a join is lent two different nets. At first the tables hold anything. .. Translating, dividing and reporting, accepted or refused,
--- may stand between; none of these tables is lent to them to be written."
+-- may stand between; none of these tables is lent to them to be written." So may indexes and queries (document 02, Paper 1), whose tables
+-- are no net's and no file's.
 -- Assumes nothing.
 use mathlib.Core.Path.{_≡_}
 use mathlib.Core.Bool.{Bool, cond}
@@ -23,6 +24,9 @@ use Rattle.reading.specs.Read.{readOutcome}
 use Rattle.relabel.specs.Relabel.{RelabelTables, relabelOutcome}
 use Rattle.partition.specs.Divide.{DivisionTables, divideOutcome}
 use Rattle.report.specs.Report.{Lent, reportOutcome}
+use Rattle.indexing.specs.Index.{Index}
+use Rattle.indexing.specs.Build.{indexOutcome}
+use Rattle.querying.specs.Query.{queryOutcome}
 
 -- nets and files by number; a file is its bytes
 pub record World : Type 0 where
@@ -40,6 +44,8 @@ pub data Call : Type 0 where
   relabel : (order edges : List ℕ) (tables : RelabelTables) → Call
   divide : (net B k : ℕ) (tables : DivisionTables) → Call
   report : (net B k : ℕ) (edges : List ℕ) (tables : Lent) → Call
+  index : (old more : List ℕ) (tables : Index) → Call
+  query : (tables : Index) (rank : ℕ) → Call
 
 -- f with the value at i put in the place of the old one
 unfoldable pub update : {A : Type 0} → (ℕ → A) → ℕ → A → ℕ → A
@@ -69,3 +75,5 @@ step w (read i f) = stepped (readOutcome (w .nets i) (w .files f)) (withNet w i)
 step w (relabel order xs tables) = stepped (relabelOutcome order xs tables) (λ (t : RelabelTables). w)
 step w (divide i B k tables) = stepped (divideOutcome (w .nets i) B k tables) (λ (t : DivisionTables). w)
 step w (report i B k xs tables) = stepped (reportOutcome (w .nets i) B k xs tables) (λ (t : Lent). w)
+step w (index old more tables) = stepped (indexOutcome tables old more) (λ (t : Index). w)
+step w (query tables rank) = record { accepted = eqb (queryOutcome tables rank .cell) 0; world = w }

@@ -1,0 +1,2 @@
+-- What indexes and queries say together.
+pub mod Neighbours

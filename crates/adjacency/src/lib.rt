@@ -1,0 +1,1 @@
+// No code: what indexes and queries say together.

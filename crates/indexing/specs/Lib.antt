@@ -1,0 +1,4 @@
+-- The index of neighbours of a list of edges.
+pub mod Index
+pub mod Build
+pub mod Steps

@@ -1,0 +1,3 @@
+-- Entries sorted by their keys.
+pub mod Keyed
+pub mod Sorted
