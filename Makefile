@@ -7,8 +7,10 @@
 PREFIX = /usr/local
 LIBDIR = $(PREFIX)/lib
 INCLUDEDIR = $(PREFIX)/include
-VERSION = 0.1.0
-SONAME = libniqastul.so.0
+# A change of the header raises the minor number. The shared object is named by both numbers, so that a host built against another
+# header cannot load it. bindings/ names the version too; tests/test_interface.py holds them together.
+VERSION = 0.2.0
+SONAME = libniqastul.so.$(basename $(VERSION))
 
 SOURCES := crates.txt $(shell find crates -name '*.rt' -o -name '*.antt')
 
@@ -38,7 +40,7 @@ libdir=$(LIBDIR)
 includedir=$(INCLUDEDIR)
 
 Name: niqastul
-Description: Elimination forests of graphs, grown, joined and divided; proved
+Description: Elimination forests of graphs, grown, joined and divided, and indexes of neighbours; proved
 Version: $(VERSION)
 Libs: -L$${libdir} -lniqastul
 Cflags: -I$${includedir}

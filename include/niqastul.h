@@ -1,16 +1,21 @@
-/* Niqastul: elimination forests of graphs, grown, joined and divided. Every call below is proved to do what is written here
- * (crates/exports); this header is what a C or C++ program sees of it.
+/* Niqastul: elimination forests of graphs, grown, joined and divided, and indexes of neighbours. Every call below is proved to do
+ * what is written here (crates/exports); this header is what a C or C++ program sees of it.
  *
  * TABLES. A table is passed as a pointer and its number of entries. A graph has n vertices, 1 to NIQASTUL_MAX_VERTICES, named
  * by their ranks 0 to n-1 in an elimination order. An edge list holds two vertices to an edge, edges may repeat, and its
  * length is the number of its entries, twice that of its edges. A net is two tables of n entries, lent to every call:
  *     parents[x]   the parent of x in the elimination forest, above x, or NIQASTUL_ABSENT;
  *     weights[x]   the number of edges whose lower end is x, repeats counted.
- * n is the length of parents, and every other table must have exactly the length that is named at the call. Work tables
- * are room that the call needs and that the caller lends; what they hold before does not matter.
+ * An index is two tables beside an edge list:
+ *     neighbours   the runs of all vertices end to end, by rising rank, as long as the list: the run of x has for each edge at x, in
+ *                  the order of the list, its other end, repeats included;
+ *     starts[x]    where the run of x starts in neighbours, n+1 entries: it ends where that of x+1 starts, and the last entry is the
+ *                  end of the last run.
+ * n is the length of parents, of an index that of starts less one, and every other table must have exactly the length that is named
+ * at the call. Work tables are room that the call needs and that the caller lends; what they hold before does not matter.
  *
  * ANSWERS. 0 (NIQASTUL_ACCEPTED), or the number of the refusal: of those that are listed at the call, the first that
- * applies. A refused call leaves every table bit for bit as it was; the one exception is named at the call. What is not
+ * applies. A refused call leaves every table bit for bit as it was; the two exceptions are named at the calls. What is not
  * refused is accepted, and then every table that is not const is as the call says. Nothing is allocated or kept between
  * calls, and there is no other state: calls on different tables may run in different threads.
  *
@@ -32,7 +37,7 @@ extern "C" {
 
 #define NIQASTUL_ABSENT UINT32_C(0xFFFFFFFF) /* the parent of a vertex that has none */
 #define NIQASTUL_MAX_VERTICES 1000000
-#define NIQASTUL_MAX_EDGES 16000000 /* of a list that is added or reported on */
+#define NIQASTUL_MAX_EDGES 16000000 /* of a list that is added, reported on or indexed */
 #define NIQASTUL_MAX_TOTAL 16000000 /* of the weights of a net */
 #define NIQASTUL_MAX_LIMIT 16000000 /* of the weight that a group may carry */
 #define NIQASTUL_MAX_BLOCKS 1000
@@ -41,13 +46,14 @@ extern "C" {
 enum niqastul_answer {
     NIQASTUL_ACCEPTED = 0,
     NIQASTUL_BAD_COUNT = 1,       /* no vertex, or more than NIQASTUL_MAX_VERTICES */
-    NIQASTUL_WRONG_LENGTH = 2,    /* a table of the wrong length, or an edge list of odd length */
+    NIQASTUL_WRONG_LENGTH = 2,    /* a table of the wrong length, an edge list of odd length, or no starts of an index, which then has no n */
     NIQASTUL_BAD_FILE = 6,        /* bytes that are not a file of n records */
     NIQASTUL_BAD_ORDER = 3,       /* an entry of the order is n or more, or repeats */
     NIQASTUL_BAD_LIMIT = 8,       /* a limit or a number of blocks out of range */
     NIQASTUL_UNLIKE_COUNTS = 21,  /* two nets with different numbers of vertices */
-    NIQASTUL_DAMAGED = 30,        /* a net with a parent that is neither absent nor above its vertex, or with too large a total */
-    NIQASTUL_BAD_VERTEX = 4,      /* an edge names n or more */
+    NIQASTUL_DAMAGED = 30,        /* a net with a parent that is neither absent nor above its vertex, or with too large a total; starts of
+                                     an index that do not go from 0 up to the number of its neighbours without falling */
+    NIQASTUL_BAD_VERTEX = 4,      /* an edge names n or more, or the rank asked for is n or more */
     NIQASTUL_LOOP = 5,            /* both ends of an edge are one vertex; 4 or 5 is that of the first faulty edge */
     NIQASTUL_BAD_PARENT = 7,      /* a record's parent is neither absent nor above its vertex */
     NIQASTUL_FULL = 20,           /* a total above NIQASTUL_MAX_TOTAL, or a list of more than NIQASTUL_MAX_EDGES edges */
@@ -187,6 +193,31 @@ uint32_t niqastul_report(const uint32_t *parents, size_t parents_length,
                          uint32_t *lower, size_t lower_length,
                          uint64_t *bound,
                          uint64_t *volume);
+
+/* INDEX an edge list, given in two parts, an old list and an added one: the index is that of the old edges followed by the added ones,
+ * as one list would give it. Each edge stands in the runs of both its ends. No index of the old edges is needed, and what the two
+ * tables held before does not matter.
+ *   reads   old_edges [m], added [k]      in ranks; either may be empty
+ *   writes  starts [n+1], neighbours [m+k]
+ *   refused 2 (no starts), 1, 2, 4 or 5 at the first faulty edge, the old before the added, 20 (more than NIQASTUL_MAX_EDGES
+ *           edges, old and added together) */
+uint32_t niqastul_index(const uint32_t *old_edges, size_t old_edges_length,
+                        const uint32_t *added, size_t added_length,
+                        uint32_t *starts, size_t starts_length,
+                        uint32_t *neighbours, size_t neighbours_length);
+
+/* QUERY an index for the run of a rank: neighbours[*first] and what follows, *count entries in all. It tests all starts, and reads no
+ * neighbour.
+ *   reads   starts [n+1]
+ *           neighbours         of any length
+ *   writes  *first             where the run starts
+ *           *count             how many neighbours it has
+ *   refused 2 (no starts), 1, 30, 4 (a rank of n or more). The exception: refused, it leaves 0 in both cells, an empty part. */
+uint32_t niqastul_query(const uint32_t *starts, size_t starts_length,
+                        const uint32_t *neighbours, size_t neighbours_length,
+                        uint32_t rank,
+                        uint64_t *first,
+                        uint64_t *count);
 
 #ifdef __cplusplus
 }

@@ -3,7 +3,7 @@
 import unittest
 from array import array
 
-from niqastul import ABSENT, Net, Refused, relabel
+from niqastul import ABSENT, Index, Net, Refused, relabel
 
 
 def net(vertices, edges):
@@ -89,6 +89,40 @@ class Calls(unittest.TestCase):
         for number, arguments in ((2, (4, 2, edges[1:])), (8, (0, 2, edges)), (8, (4, 2 ** 32 + 2, edges)), (4, (4, 2, [0, 6])),
                                   (5, (4, 2, [0, 0])), (22, (2, 2, edges)), (23, (4, 2, edges[2:]))):
             self.refused(number, its.report, *arguments)
+
+    def test_index(self):
+        edges = relabel([3, 0, 1, 2, 4, 5], [3, 1, 3, 4, 0, 2, 0, 4, 1, 5, 1, 3])
+        index = Index(6, edges)
+        self.assertEqual([list(index.neighbours(rank)) for rank in range(6)], [[2, 4, 2], [3, 4], [0, 5, 0], [1], [0, 1], [2]])
+        self.assertEqual((list(index.starts), list(index.runs)), ([0, 3, 5, 8, 9, 11, 12], [2, 4, 2, 3, 4, 0, 5, 0, 1, 0, 1, 2]))
+        for place in range(0, 13, 2):
+            parts = Index(6, list(edges[:place]), edges[place:])
+            self.assertEqual((parts.starts, parts.runs), (index.starts, index.runs))
+        self.assertEqual(list(Index(1, []).neighbours(0)), [])
+
+    def test_index_is_not_copied(self):
+        index = Index(3, [0, 1, 1, 2])
+        run = index.neighbours(1)
+        index.runs[1] = 2
+        self.assertEqual(list(run), [2, 2])
+        with self.assertRaises(TypeError):
+            run[0] = 0
+
+    def test_index_refusals(self):
+        for vertices in (-1, 0, 1_000_001, 2 ** 64):
+            self.refused(1, Index, vertices, [])
+        self.refused(2, Index, 3, [0], [1])
+        self.refused(4, Index, 3, [0, 1], [3, 3])
+        self.refused(5, Index, 3, [1, 1], [0, 3])
+        index = Index(3, [0, 1])
+        for rank in (-1, 3, 2 ** 32 - 1, 2 ** 32, 2 ** 64 + 1):
+            self.refused(4, index.neighbours, rank)
+        index.starts[1] = 3
+        self.refused(30, index.neighbours, 3)
+        del index.starts[1:]
+        self.refused(1, index.neighbours, 0)
+        index.starts.pop()
+        self.refused(2, index.neighbours, 0)
 
     def test_refusals(self):
         its = net(3, [0, 1])

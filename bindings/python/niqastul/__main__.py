@@ -3,10 +3,10 @@
 import argparse
 import sys
 
-from . import Refused, files, links, picture, split, together
+from . import Refused, files, links, neighbours, picture, split, together
 from .progress import Progress
 
-ABOUT = "Nets as files: grown, joined, split into blocks, laid together again and drawn."
+ABOUT = "Nets as files: grown, joined, split into blocks, laid together again, drawn, and asked for neighbours."
 
 FORMATS = """files, little-endian 32-bit numbers without a header:
   marks.ord   the order: mark numbers, the first to be eliminated first
@@ -40,12 +40,17 @@ With places.txt, two numbers a line by mark number, x to the right and y up: the
 Without it: the elimination forest, its groups coloured by block. Border marks, those with ties in several blocks, are ringed.
 Of a net above some thousand marks a part is drawn, and the picture says so."""
 
+NEIGHBOURS = """print the neighbours of marks
+A line for each MARK, a mark number: the mark, then the other mark of each of its ties, in the order of ties.rec, repeats included."""
+
+# `[name]` may be left out; of `name..` there are one or more, and they are vertices
 COMMANDS = (
     (links.grow, "marks.ord ties.rec net.link", GROW),
     (links.join, "a.link b.link out.link", JOIN),
     (split.split, "marks.ord ties.rec want.rec DIR", SPLIT),
     (together.together, "marks.ord DIR net.link", TOGETHER),
     (picture.picture, "marks.ord ties.rec want.rec [places.txt] out.svg", PICTURE),
+    (neighbours.neighbours, "marks.ord ties.rec MARK..", NEIGHBOURS),
 )
 
 
@@ -55,17 +60,28 @@ def parser():
     commands = its.add_subparsers(metavar="COMMAND", required=True)
     for run, names, about in COMMANDS:
         command = commands.add_parser(run.__name__, help=about.split("\n")[0], description=about, **form)
-        command.set_defaults(run=run, names=names.split())
-        for name in names.split():
-            command.add_argument(name.strip("[]"), nargs="?" if name.startswith("[") else None)
+        command.set_defaults(run=run, names=[add_argument(command, name) for name in names.split()])
     return its
+
+
+def add_argument(command, name):
+    """Answers the name under which the argument is found."""
+    if name.endswith(".."):
+        return command.add_argument(name[:-2], nargs="+", type=vertex).dest
+    return command.add_argument(name.strip("[]"), nargs="?" if name.startswith("[") else None).dest
+
+
+def vertex(word):
+    if not (word.isascii() and word.isdigit()):
+        raise argparse.ArgumentTypeError(f"{word} is not a mark number")
+    return int(word)
 
 
 def main(argv=None):
     arguments = vars(parser().parse_args(argv))
-    run, paths = arguments["run"], [arguments[name.strip("[]")] for name in arguments["names"]]
+    run, words = arguments["run"], [arguments[name] for name in arguments["names"]]
     try:
-        return 1 if run(Progress(), *paths) is False else 0
+        return 1 if run(Progress(), *words) is False else 0
     except Refused as refusal:
         print(refusal, file=sys.stderr)
         return 1

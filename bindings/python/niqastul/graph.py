@@ -24,12 +24,8 @@ def read_divided(progress, marks, ties, want):
 
 def grown(progress, marks, ties, want=None):
     """The graph of the bytes of its files; `want` is only checked here, since its refusals come before those of edges."""
-    net = Net(len(marks) // 4)
-    files.whole(marks, 4)
-    files.whole(ties, 8)
-    if want is not None and len(want) != 8:
-        raise Refused(6)
-    order = ordered(marks)
+    order = order_of_files(marks, ties, want)
+    net = Net(len(order))
     if want is not None:
         # a net without edges can be divided by every limit and number of blocks in range
         Net(1).divide(*files.numbers(want))
@@ -37,6 +33,16 @@ def grown(progress, marks, ties, want=None):
     edges = relabel(order, files.numbers(ties))
     net.add(edges)
     return Graph(order, ties, edges, net)
+
+
+def order_of_files(marks, ties, want=None):
+    """The order, once the bytes of all files are whole records: 1, 6, 3."""
+    Net(len(marks) // 4)
+    files.whole(marks, 4)
+    files.whole(ties, 8)
+    if want is not None and len(want) != 8:
+        raise Refused(6)
+    return ordered(marks)
 
 
 def ordered(marks):

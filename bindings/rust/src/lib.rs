@@ -1,9 +1,9 @@
-//! Elimination forests of graphs, grown, joined and divided by a proved library.
+//! Elimination forests of graphs, grown, joined and divided, and indexes of neighbours, by a proved library.
 //!
-//! A [`Net`] owns its tables, takes edges, in one thread or in several, and is divided; [`relabel`] takes an edge list from vertex
-//! numbers to ranks. Below them, [`tables`] has the library's calls over slices that the caller lends, with no allocation. Every call is
-//! safe: the library checks all that its tables hold, and what is left, that a table to be written overlaps no other, is what `&mut`
-//! says.
+//! A [`Net`] owns its tables, takes edges, in one thread or in several, and is divided; an [`Index`] has the neighbours of each vertex
+//! of an edge list; [`relabel`] takes an edge list from vertex numbers to ranks. Below them, [`tables`] has the library's calls over
+//! slices that the caller lends, with no allocation. Every call is safe: the library checks all that its tables hold, and what is
+//! left, that a table to be written overlaps no other, is what `&mut` says.
 //!
 //! ```
 //! let mut net = niqastul::Net::new(4)?;
@@ -11,21 +11,25 @@
 //! assert_eq!(net.parents(), [1, 2, 3, niqastul::ABSENT]);
 //! assert_eq!(net.add(&[0, 4]), Err(niqastul::Refusal::BadVertex));
 //! assert_eq!(net.divide(3, 2)?.block, [0, 0, 0, 0]);
+//! assert_eq!(niqastul::Index::new(4, &[0, 1, 2, 0, 0, 3])?.neighbours(0)?, [1, 2, 3]);
 //! # Ok::<(), niqastul::Refusal>(())
 //! ```
 
+mod index;
 // skipped: a pointer and its length stand on one line
 #[rustfmt::skip]
 pub mod tables;
 mod threads;
 
+pub use index::Index;
+
 /// The parent of a vertex that has none.
 pub const ABSENT: u32 = 0xFFFF_FFFF;
 
-/// The largest number of vertices of a net.
+/// The largest number of vertices of a net or an index.
 pub const MAX_VERTICES: usize = 1_000_000;
 
-/// The largest number of edges of a list that is added or reported on.
+/// The largest number of edges of a list that is added, reported on or indexed.
 pub const MAX_EDGES: usize = 16_000_000;
 
 /// The largest total of the weights of a net.
@@ -43,7 +47,7 @@ pub const MAX_BLOCKS: u32 = 1_000;
 pub enum Refusal {
     /// No vertex, or more than [`MAX_VERTICES`].
     BadCount = 1,
-    /// A table of the wrong length, or an edge list of odd length.
+    /// A table of the wrong length, an edge list of odd length, or no starts of an index.
     WrongLength = 2,
     /// Bytes that are not a file of as many records as there are vertices.
     BadFile = 6,
@@ -53,9 +57,10 @@ pub enum Refusal {
     BadLimit = 8,
     /// Two nets with different numbers of vertices.
     UnlikeCounts = 21,
-    /// A net with a parent that is neither absent nor above its vertex, or with too large a total.
+    /// A net with a parent that is neither absent nor above its vertex, or with too large a total; starts of an index that do not go
+    /// from 0 up to the number of its neighbours without falling.
     Damaged = 30,
-    /// The first faulty edge names a vertex out of range.
+    /// The first faulty edge names a vertex out of range, or the rank asked for is out of range.
     BadVertex = 4,
     /// The first faulty edge has one vertex as both its ends.
     Loop = 5,

@@ -69,6 +69,19 @@ mod library {
             bound: *mut u64,
             volume: *mut u64,
         ) -> u32;
+        pub fn niqastul_index(
+            old_edges: *const u32, old_edges_length: usize,
+            added: *const u32, added_length: usize,
+            starts: *mut u32, starts_length: usize,
+            neighbours: *mut u32, neighbours_length: usize,
+        ) -> u32;
+        pub fn niqastul_query(
+            starts: *const u32, starts_length: usize,
+            neighbours: *const u32, neighbours_length: usize,
+            rank: u32,
+            first: *mut u64,
+            count: *mut u64,
+        ) -> u32;
     }
 }
 
@@ -242,4 +255,31 @@ pub fn report(
         )
     })?;
     Ok((bound, volume))
+}
+
+/// Writes the index of an old list of edges followed by an added one, whatever its tables held.
+pub fn index(old_edges: &[u32], added: &[u32], starts: &mut [u32], neighbours: &mut [u32]) -> Result<(), Refusal> {
+    answer(unsafe {
+        library::niqastul_index(
+            old_edges.as_ptr(), old_edges.len(),
+            added.as_ptr(), added.len(),
+            starts.as_mut_ptr(), starts.len(),
+            neighbours.as_mut_ptr(), neighbours.len(),
+        )
+    })
+}
+
+/// The run of a rank, as part of the neighbours of an index.
+pub fn query<'a>(starts: &[u32], neighbours: &'a [u32], rank: u32) -> Result<&'a [u32], Refusal> {
+    let (mut first, mut count) = (0, 0);
+    answer(unsafe {
+        library::niqastul_query(
+            starts.as_ptr(), starts.len(),
+            neighbours.as_ptr(), neighbours.len(),
+            rank,
+            &mut first,
+            &mut count,
+        )
+    })?;
+    Ok(&neighbours[first as usize..][..count as usize])
 }
