@@ -27,8 +27,17 @@ def a_folder(large=False):
         yield Folder(path)
 
 
+def broken(rng, files, values=256):
+    """Files, one of them with a byte changed to one of so many values, or cut off somewhere."""
+    which = rng.randrange(len(files))
+    data = files[which]
+    place = rng.randrange(len(data) + 1)
+    files[which] = data[:place] + (bytes([rng.randrange(values)]) + data[place + 1:]) * rng.randrange(2)
+    return files
+
+
 class Folder:
-    """Names are those of files in the folder; everything else is handed to a command as it is."""
+    """Names are those of files in the folder; a number is handed to a command as it is."""
 
     def __init__(self, path):
         self.path = pathlib.Path(path)
@@ -47,7 +56,7 @@ class Folder:
         out, err = io.StringIO(), io.StringIO()
         with contextlib.redirect_stdout(out), contextlib.redirect_stderr(err):
             try:
-                status = main([command, *(str(self.path / name) for name in names)])
+                status = main([command, *(name if name.isdigit() else str(self.path / name) for name in names)])
             except SystemExit as ended:
                 status = ended.code
         return status, out.getvalue(), err.getvalue()

@@ -1,6 +1,8 @@
 """Inputs for each call: accepted ones, and faults to put into them, each with the number that it must get."""
 
+import index_inputs
 import nets
+from changes import edge_faults, resize_all, put, resize, set_number
 from library import PRESENT
 from oracle import calls
 from oracle.forest import ABSENT, loads_of, parents_of, ties_of
@@ -60,33 +62,13 @@ def report(rng, n):
     return given | {name: nets.garbage(rng, n) for name in ("reach", "block_count", "compared_parents", "compared_weights")}
 
 
-MAKERS = {maker.__name__: maker for maker in (relabel, start, add, join, save, read, divide, report)}
+MAKERS = {maker.__name__: maker for maker in (relabel, start, add, join, save, read, divide, report, index_inputs.index, index_inputs.query)}
 
 
 def accepted(rng, name, n):
     """An input that the call accepts, with its work tables."""
     given = MAKERS[name](rng, n)
     return given | {table: nets.garbage(rng, len(end)) for table, end in PRESENT[name].work_end(given).items()}
-
-
-# Faults: (number, name, change). A change writes into the input in place, and may be put on top of others that are decided later.
-
-def put(table, place, value):
-    def change(given):
-        given[table] = list(given[table])
-        given[table][place] = value(given) if callable(value) else value
-
-    return change
-
-
-def resize(table, by):
-    def change(given):
-        if by < 0 and not given[table]:
-            raise IndexError("already empty")
-        length = len(given[table]) + by
-        given[table] = (list(given[table]) + [1] * max(by, 0))[:max(length, 0)]
-
-    return change
 
 
 def n_of(given):
@@ -111,14 +93,6 @@ def full(weights, less=0):
     return put(weights, 1, lambda g: calls.MAX_TOTAL - less - sum(g[weights]) + g[weights][1])
 
 
-def edge_faults(of_n):
-    for place in (0, 2, -2):
-        yield 4, f"first end of edge {place} is n", put("edges", place, lambda g: len(g[of_n]))
-        yield 4, f"second end of edge {place} is far out", put("edges", place + 1, ABSENT)
-        yield 5, f"edge {place} is a loop", put("edges", place, lambda g, p=place: g["edges"][p + 1])
-    yield 4, "an edge is n and n", lambda g: (put("edges", 2, len(g[of_n]))(g), put("edges", 3, len(g[of_n]))(g))
-
-
 def lengths(name):
     """Every table a little too long, too short or empty, but for those whose length is n or has a number of its own."""
     call = PRESENT[name]
@@ -134,24 +108,11 @@ def lengths(name):
         yield 2, "edges one end short", resize("edges", -1)
 
 
-def net_resized(by, *tables):
-    """Another vertex count throughout, so that no length is wrong."""
-    def change(given):
-        for table in tables:
-            resize(table, by)(given)
-
-    return change
-
-
-def set_number(name, value):
-    def change(given):
-        given[name] = value
-
-    return change
-
-
 def faults(name):
-    of_n = "order" if name == "relabel" else "parents"
+    if name in index_inputs.FAULTS:
+        yield from index_inputs.FAULTS[name]()
+        return
+    of_n = PRESENT[name].counted
     yield 1, "no vertex", lambda g: resize(of_n, -len(g[of_n]))(g)
     yield from lengths(name)
     if name == "relabel":
@@ -176,7 +137,7 @@ def faults(name):
     if name == "join":
         yield 1, "no vertex in the other net", lambda g: resize("other_parents", -len(g["other_parents"]))(g)
         for by in (-1, 1):
-            change = net_resized(by, "other_parents", "other_weights", "lower")
+            change = resize_all(by, "other_parents", "other_weights", "lower")
             yield 21, f"the other net has {by:+} vertices", lambda g, c=change: (put("other_parents", -2, ABSENT)(g), c(g), put("other_parents", -1, ABSENT)(g))
         yield from damages(30, "other_parents", "other_weights")
         yield 20, "both nets too full together", lambda g: (full("weights", 5)(g), put("other_weights", 0, lambda h: 6 + h["other_weights"][0])(g))
@@ -184,7 +145,7 @@ def faults(name):
     if name in ("add", "join", "save", "divide", "report"):
         yield from damages(30, "parents", "weights")
     if name in ("relabel", "add", "report"):
-        yield from edge_faults(of_n)
+        yield from edge_faults("edges", lambda g: len(g[of_n]))
     if name == "add":
         yield 20, "one edge too many", lambda g: full("weights", len(g["edges"]) // 2 - 1)(g)
         yield 20, "the net is full", full("weights")

@@ -1,4 +1,4 @@
-"""The shared library, call by call: its tables in the order of include/niqastul.h, and what document 01's oracle expects of it.
+"""The shared library, call by call: its tables in the order of include/niqastul.h, and what the oracle expects of it.
 
 `Call.run` lends each table with guards before and behind it, and compares the answer, every entry of every table afterwards and the
 guards with what is expected: the whole of what a call may do and may not do."""
@@ -8,7 +8,7 @@ import pathlib
 import re
 from array import array
 
-from oracle import calls
+from oracle import calls, neighbours
 
 ROOT = pathlib.Path(__file__).resolve().parent.parent
 LIBRARY = ctypes.CDLL(str(ROOT / "target" / "lib" / "libniqastul.so"))
@@ -16,7 +16,10 @@ LIBRARY = ctypes.CDLL(str(ROOT / "target" / "lib" / "libniqastul.so"))
 GUARD = {"I": [0xA5A5A5A5] * 4, "B": [0xA5] * 4, "Q": [0x5A5A5A5A5A5A5A5A] * 2}
 
 # tables whose entries are not of 32 bits
-CODES = {"bytes": "B", "bound": "Q", "volume": "Q"}
+CODES = {"bytes": "B", "bound": "Q", "volume": "Q", "first": "Q", "count": "Q"}
+
+# the tables that tell n, where these are not the parents, and by how much they are longer than n
+COUNTED = {"relabel": ("order", 0), "index": ("starts", 1), "query": ("starts", 1)}
 
 
 class Call:
@@ -26,6 +29,7 @@ class Call:
 
     def __init__(self, name, parameters, judge, work=lambda given: {}):
         self.name, self.symbol, self.judge, self.work_end = name, "niqastul_" + name, judge, work
+        self.counted, self.beyond_n = COUNTED.get(name, ("parents", 0))
         self.kinds = dict(re.fullmatch(r"(\w+)(\W?)", word).groups() for word in parameters.split())
 
     def named(self, *kinds):
@@ -87,6 +91,12 @@ def report(*given):
     return number, *after, bound if number else [its_bound], volume if number else [its_volume]
 
 
+def query(starts, its_neighbours, rank, *cells):
+    """The oracle's query, the place and the length of what it hands back written to their cells."""
+    number, first, count = neighbours.query(starts, its_neighbours, rank)
+    return number, [first], [count]
+
+
 def call(name, parameters, oracle, work=lambda given: {}):
     """A call whose oracle has the same tables in the same order, less the work tables."""
 
@@ -111,6 +121,8 @@ CALLS = [
     call("report", "parents weights limit# blocks# edges carried! top! block! block_loads! edge_blocks! reach! block_count! "
          "compared_parents! compared_weights! ends* jump* lower* bound@ volume@", report,
          lambda g: work_of(g, len(g["parents"]) + len(g["edges"]) // 2)),
+    call("index", "old_edges added starts! neighbours!", neighbours.index),
+    call("query", "starts neighbours rank# first@ count@", query),
 ]
 
 # the calls that the library has

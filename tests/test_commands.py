@@ -10,7 +10,7 @@ import sys
 from unittest import mock
 
 import nets
-from commands import PYTHON, THREE, a_folder
+from commands import PYTHON, THREE, a_folder, broken
 from harness import test
 from library import ROOT
 from oracle import blocks, calls
@@ -21,10 +21,18 @@ WHOLE = {"marks_ord": file_of(*ORDER), "ties_rec": file_of(*TIES), "want_rec": f
 LARGEST = file_of(calls.MAX_LIMIT, 1)
 
 # the commands that README shows
-SHOWN = re.findall(r"^    python3 -m niqastul ([^#\n]+)", (ROOT / "README.md").read_text(), re.M)
+README = (ROOT / "README.md").read_text()
+SHOWN = re.findall(r"^    python3 -m niqastul ([^#\n]+)", README, re.M)
 
 # the commands that read an order and ties, with the names they are given
 READERS = (("grow", *THREE[:2], "out"), ("split", *THREE, "out"), ("picture", *THREE, "out"))
+
+# faults of the two files, with the number that each must get
+FAULTS = [(1, {"marks_ord": b""}), (1, {"marks_ord": b"abc"}), (1, {"marks_ord": bytes(4 * calls.MAX_MARKS + 4)}),
+          (6, {"marks_ord": WHOLE["marks_ord"] + b"\0"}), (6, {"ties_rec": WHOLE["ties_rec"][:-4]}),
+          (6, {"ties_rec": b"abc", "marks_ord": bytes(8)}),
+          (3, {"marks_ord": file_of(0, 1, 2, 3, 4, 4)}), (3, {"marks_ord": file_of(0, 1, 6), "ties_rec": file_of(7, 7)}),
+          (4, {"ties_rec": file_of(0, 1, 2, 6, 3, 3)}), (5, {"ties_rec": file_of(0, 1, 3, 3, 2, 6)})]
 
 
 @test(at_least=400)
@@ -57,18 +65,13 @@ def untouched(t, folder, words, number, *context):
 @test(at_least=200)
 def refusals(t):
     """Each refusal of files, with no output there and with an old one."""
-    faults = [(1, {"marks_ord": b""}), (1, {"marks_ord": b"abc"}), (1, {"marks_ord": bytes(4 * calls.MAX_MARKS + 4)}),
-              (6, {"marks_ord": WHOLE["marks_ord"] + b"\0"}), (6, {"ties_rec": WHOLE["ties_rec"][:-4]}),
-              (6, {"ties_rec": b"abc", "marks_ord": bytes(8)}),
-              (3, {"marks_ord": file_of(0, 1, 2, 3, 4, 4)}), (3, {"marks_ord": file_of(0, 1, 6), "ties_rec": file_of(7, 7)}),
-              (4, {"ties_rec": file_of(0, 1, 2, 6, 3, 3)}), (5, {"ties_rec": file_of(0, 1, 3, 3, 2, 6)})]
     wants = [(6, {"want_rec": b""}), (6, {"want_rec": file_of(4)}), (6, {"want_rec": file_of(4, 2, 1), "marks_ord": bytes(8)}),
              (8, {"want_rec": file_of(0, 2), "ties_rec": file_of(7, 7)}), (8, {"want_rec": file_of(4, 1001)}), (8, {"want_rec": file_of(4, 0)}),
              (8, {"want_rec": file_of(calls.MAX_LIMIT + 1, 1)}), (3, {"want_rec": file_of(0, 0), "marks_ord": bytes(8)}),
              (4, {"want_rec": file_of(1, 2), "ties_rec": file_of(0, 6)}), (22, {"want_rec": file_of(2, 2)})]
     with a_folder() as folder:
         for words in READERS:
-            for number, fault in faults + wants * (words[0] != "grow"):
+            for number, fault in FAULTS + wants * (words[0] != "grow"):
                 folder.write(**(WHOLE | fault), out=None)
                 untouched(t, folder, words, number, str(fault)[:200])
                 if words[0] != "split":
@@ -102,10 +105,9 @@ def broken_files(t):
             rng = random.Random(seed)
             n = rng.randrange(1, 8)
             lists = rng.sample(range(n), n), nets.flat(nets.ties(rng, n, rng.choice(nets.SHAPES))), (rng.randrange(1, 9), rng.randrange(1, 5))
-            given, which = [file_of(*numbers) for numbers in lists], rng.randrange(3)
+            given = [file_of(*numbers) for numbers in lists]
             given[1] += file_of(0, 0) * (seed % 10 == 0)
-            place = rng.randrange(len(given[which]) + 1)
-            given[which] = given[which][:place] + (bytes([rng.randrange(256)]) + given[which][place + 1:]) * rng.randrange(2)
+            given = broken(rng, given)
             folder.write(**dict(zip(WHOLE, given)))
             for words in READERS:
                 number = blocks.refusal(*given[:2], LARGEST if words[0] == "grow" else given[2])
@@ -206,7 +208,7 @@ def whole_or_not(t):
             os.rename(folder.path / "out", folder.path / words[0])
 
 
-@test(at_least=14)
+@test(at_least=19)
 def command_line(t):
     """As a program: help and its exit status, usage, what is printed where."""
     def ran(*words, **environment):
@@ -214,10 +216,11 @@ def command_line(t):
         return its.returncode, its.stdout, its.stderr
 
     status, out, _ = ran("-h", NIQASTUL_LIBRARY="/nowhere")
-    t.true(status == 0 and all(name in out for name in ("grow", "join", "split", "together", "picture", "exit status", "ties.rec")), out)
+    t.true(status == 0 and all(name in out for name in ("grow", "join", "split", "together", "picture", "neighbours", "exit status", "ties.rec")), out)
     status, out, _ = ran("picture", "-h")
     t.true(status == 0 and "[places.txt]" in out and "ringed" in out, out)
-    for words in ((), ("shrink",), ("grow", "a", "b"), ("grow", "a", "b", "c", "d"), ("grow", "--fast", "a", "b", "c")):
+    for words in ((), ("shrink",), ("grow", "a", "b"), ("grow", "a", "b", "c", "d"), ("grow", "--fast", "a", "b", "c"),
+                  ("neighbours", "a", "b"), ("neighbours", "a", "b", "0", "c"), ("neighbours", "a", "b", "-1"), ("neighbours", "a", "b", "1.0")):
         status, out, err = ran(*words)
         t.true(status == 2 and out == "" and "usage: python3 -m niqastul" in err, *words)
     with a_folder() as folder:
@@ -227,17 +230,20 @@ def command_line(t):
         t.same(ran("split", *names[:4]), (0, "", ""))
         t.same(ran("together", names[0], names[3], names[4]), (0, f"the blocks laid together are {names[4]}, byte for byte\n", ""))
         t.same(ran("picture", *names[:3], names[5]), (0, "", ""))
+        t.same(ran("neighbours", *names[:2], "3", "2"), (0, "3 1 4 1\n2 0\n", ""))
         t.same(ran("grow", names[1], names[1], names[4]), (1, "", "refused 3: an entry of the order is out of range or repeats\n"))
         status, _, err = ran("grow", *names[:2], names[4], NIQASTUL_LIBRARY="/nowhere")
         t.true(status == 2 and "NIQASTUL_LIBRARY" in err and err.count("\n") == 1, err)
         t.same((folder.path / "net.link").read_bytes(), link_file(ORDER, TIES))
 
 
-@test(at_least=4, given=SHOWN)
+@test(at_least=6, given=SHOWN)
 def commands_of_readme(t):
-    """Those that README shows, on the yard, one after the other."""
+    """Those that README shows, on the yard, one after the other; of neighbours it shows what is printed."""
     with a_folder() as folder:
         subprocess.run([sys.executable, ROOT / "examples" / "yard.py", folder.path], check=True)
         for line in SHOWN:
-            status, _, err = folder.run(*line.split())
+            status, out, err = folder.run(*line.split())
             t.same((status, err), (0, ""), line)
+            if line.startswith("neighbours"):
+                t.true(out and "".join(f"    {its}\n" for its in out.splitlines()) in README, out)

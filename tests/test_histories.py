@@ -62,7 +62,7 @@ class History:
         return flat
 
     def step(self):
-        name = self.rng.choice([name for name in ("start", "add", "add", "join", "join", "save", "read", "relabel", "divide", "report") if name in PRESENT])
+        name = self.rng.choice([name for name in ("start", "add", "add", "join", "join", "save", "read", "relabel", "divide", "report", "index") if name in PRESENT])
         net, other = self.rng.sample(NETS, 2)
         file = self.rng.choice(FILES)
         if name == "start":
@@ -85,6 +85,8 @@ class History:
             self.book.read(net, file, accepted)
         elif name in ("divide", "report"):
             self.divide(name, net)
+        elif name == "index":
+            self.index(net)
         else:
             PRESENT[name].run(self.t, inputs.accepted(self.rng, name, 4))
 
@@ -96,6 +98,21 @@ class History:
         others |= {"edges": flat, "edge_blocks": nets.garbage(self.rng, len(flat) // 2), "bound": [7], "volume": [7]}
         others |= {table: nets.garbage(self.rng, n) for table in PRESENT[name].named("!") if table not in others}
         self.call(name, net, **others)
+
+    def index(self, net):
+        """Indexes a net's own list if it has one, and asks for a rank; the net's list may have come in parts."""
+        n, ties, added = len(self.nets[net][0]), self.book.nets.get(net), self.edges(net)
+        if ties is not None:
+            place = self.rng.randrange(len(ties) + 1)
+            flat, added = nets.flat(ties[:place]), nets.flat(ties[place:])
+        else:
+            flat = self.edges(net)
+        given = {"old_edges": flat, "added": added, "starts": nets.garbage(self.rng, n + 1), "neighbours": nets.garbage(self.rng, len(flat + added))}
+        number, index = PRESENT["index"].run(self.t, given)
+        rank = self.rng.randrange(n + 2)
+        cells = {"first": nets.garbage(self.rng, 1), "count": nets.garbage(self.rng, 1)}
+        asked, _ = PRESENT["query"].run(self.t, {"starts": index["starts"], "neighbours": index["neighbours"], "rank": rank} | cells)
+        self.answers += [("index", number), ("query", asked)]
 
     def claim(self):
         """What the book says of every net and file with a list."""
@@ -145,5 +162,7 @@ def histories(t):
         wanted |= {("save", 0), ("save", 1), ("save", 2), ("save", 30)}
         wanted |= {("read", 0), ("read", 1), ("read", 2), ("read", 6), ("read", 7), ("read", 20)}
         t.true(files > 300, files)
+    if "index" in PRESENT:
+        wanted |= {("index", 0), ("index", 1), ("index", 2), ("index", 4), ("index", 5), ("query", 0), ("query", 1), ("query", 30), ("query", 4)}
     t.same(wanted - seen, set(), "answers that no history met")
     t.true(listed > 5000 and long > 500, listed, long)

@@ -63,7 +63,7 @@ def rust_constants(t):
            [(name.replace("_", ""), number) for name, number in defined])
 
 
-@test(at_least=3)
+@test(at_least=8)
 def no_pointer(t):
     """The pointer of a table of length 0 is not followed."""
     none, entries = (None, ctypes.c_size_t(0)), (ctypes.c_uint32 * 2)(5, 5)
@@ -72,3 +72,26 @@ def no_pointer(t):
     t.same(LIBRARY.niqastul_start(*table, *none), 2)
     t.same(LIBRARY.niqastul_relabel(*((ctypes.c_uint32 * 2)(1, 0), ctypes.c_size_t(2)), *none, *none, *table), 0)
     t.same(list(entries), [1, 0])
+    t.same(LIBRARY.niqastul_index(*none, *none, *table, *none), 0, "one vertex and no edges")
+    t.same(list(entries), [0, 0])
+    cells = ctypes.byref(ctypes.c_uint64(7)), ctypes.byref(ctypes.c_uint64(7))
+    t.same(LIBRARY.niqastul_query(*table, *none, ctypes.c_uint32(0), *cells), 0)
+    t.same(LIBRARY.niqastul_query(*none, *none, ctypes.c_uint32(0), *cells), 2)
+
+
+@test(at_least=5)
+def versions(t):
+    """One version throughout; the shared object is named by it, so that a host built against another header cannot load it."""
+    version = re.search(r"^VERSION = (\d+\.\d+)\.\d+$", (ROOT / "Makefile").read_text(), re.M)
+    t.true(version, "the Makefile names the version")
+    whole, name = version[0].split()[-1], "libniqastul.so." + version[1]
+    t.same(f'version = "{whole}"' in (ROOT / "bindings" / "rust" / "Cargo.toml").read_text(), True, whole)
+    t.same(re.findall(r"libniqastul\.so\.[\d.]+\d", (ROOT / "bindings" / "python" / "niqastul" / "calls.py").read_text()), [name])
+    shown = subprocess.run(["readelf", "-d", LIBRARY._name], check=True, capture_output=True, text=True).stdout
+    t.same(re.findall(r"soname: \[(.*)\]", shown), [name])
+    with tempfile.TemporaryDirectory() as folder:
+        program = folder + "/host"
+        command = ["gcc", "-I", str(ROOT / "include"), "-x", "c", "-", "-L", str(ROOT / "target" / "lib"), "-lniqastul", "-o", program]
+        subprocess.run(command, input='#include "niqastul.h"\nint main(void) { return (int)niqastul_start(0, 0, 0, 0); }', text=True, check=True)
+        shown = subprocess.run(["readelf", "-d", program], check=True, capture_output=True, text=True).stdout
+    t.same(re.findall(r"Shared library: \[(libniqastul.*)\]", shown), [name], "what a host asks for")

@@ -1,38 +1,15 @@
-"""Document 01's limits at their full size: 1,000,000 vertices, a total of 16,000,000, and one more of each. Run once, over arrays."""
+"""The limits at their full size: 1,000,000 vertices, a total of 16,000,000, lists of as many edges, and one more of each. Run once, over
+arrays."""
 
-import ctypes
 from array import array
 
+from arrays import asked, made_index, run, zeros
 from harness import test
-from library import CODES, LIBRARY, PRESENT
+from library import CODES, PRESENT
 from oracle import calls
 from oracle.forest import ABSENT
 
 MOST = calls.MAX_MARKS
-
-
-def zeros(length):
-    return array("I", bytes(4 * length))
-
-
-def run(name, **tables):
-    """Calls the library on arrays as they stand; work tables are made here."""
-    call = PRESENT[name]
-    n = len(tables.get("parents", ()))
-    lower = n + len(tables.get("edges", ())) // 2 + len(tables.get("other_parents", ()))
-    work = {"ends": n, "jump": n, "lower": lower, "inverse": len(tables.get("order", ()))}
-    words, work_tables = [], []
-    for table, kind in call.kinds.items():
-        if kind == "#":
-            words.append(ctypes.c_uint32(tables[table]))
-            continue
-        if kind == "*":
-            tables[table] = zeros(work[table])
-            work_tables.append(table)
-        words.append(ctypes.c_void_p(tables[table].buffer_info()[0]))
-        if kind != "@":
-            words.append(ctypes.c_size_t(len(tables[table])))
-    return getattr(LIBRARY, call.symbol)(*words)
 
 
 def a_net(n, *edges):
@@ -84,9 +61,11 @@ def one_vertex_too_many(t):
         for length in (MOST + 1, 1):
             tables = {table: array(CODES.get(table, "I"), [5] * length) for table, kind in call.kinds.items() if kind != "#"}
             tables |= {table: 1 for table in call.named("#")}
-            tables["order" if name == "relabel" else "parents"] = many[:]
+            tables[call.counted] = array("I", [5]) * (MOST + 1 + call.beyond_n)
             t.same(run(name, **tables), 1, name)
-            t.true(all(5 in (table[0], table[-1]) for table in tables.values() if isinstance(table, array)), name)
+            cell = 0 if name == "query" else 5
+            t.true(all(tables[table][0] == cell for table in call.named("@")), name)
+            t.true(all(5 in (tables[table][0], tables[table][-1]) for table in call.named("", "!", "*")), name)
     t.same(run("join", parents=one[:], weights=zeros(1), other_parents=many, other_weights=many), 1, "the other net")
 
 
@@ -227,3 +206,45 @@ def longest_report(t):
     t.same(report(net, edges, half, 2)[0], 4, "the last edge names n")
     edges[-1] = 2
     t.same(report(net, edges, half - 1, 2)[0], 20, "20 before 22")
+
+
+@test(at_least=12)
+def widest_index(t):
+    """A path of 1,000,000 vertices, its first half old and its second added. Its runs are its own neighbours; the ends have one."""
+    last, none = MOST - 1, zeros(0)
+    path = array("I", [end for x in range(last) for end in (x, x + 1)])
+    number, starts, neighbours = made_index(MOST, path[:MOST], path[MOST:])
+    t.same(number, 0)
+    t.true(starts == zeros(1) + array("I", range(1, 2 * last, 2)) + array("I", [2 * last]), "starts")
+    t.true(neighbours[0:1] + neighbours[2::2] == array("I", [1]) + array("I", range(2, MOST)), "neighbours above")
+    t.true(neighbours[1::2] == array("I", range(last)), "neighbours below")
+    for rank, neighbours_of in ((0, [1]), (1, [0, 2]), (last - 1, [last - 2, last]), (last, [last - 1])):
+        t.same(asked(starts, neighbours, rank), (0, array("I", neighbours_of)), rank)
+    t.same(asked(starts, neighbours, MOST), (4, none))
+    starts[last] = 2 * last + 1
+    t.same(asked(starts, neighbours, 0), (30, none), "a start far behind the run is wrong")
+    t.same(made_index(MOST + 1, path[:MOST], path[MOST:])[0], 1)
+    t.same(asked(zeros(MOST + 2), none, 0), (1, none))
+    t.same(asked(zeros(MOST + 1), none, last), (0, none), "no edges")
+
+
+@test(at_least=14)
+def longest_index(t):
+    """16,000,000 edges in two lists are accepted; one more, in whichever list, is 20, unless an edge is faulty."""
+    half = calls.MAX_TIES // 2
+    old_edges, added = array("I", [0, 2]) * half, array("I", [2, 1]) * half
+    number, starts, neighbours = made_index(3, old_edges, added)
+    t.same((number, list(starts)), (0, [0, half, 2 * half, 4 * half]))
+    t.true(neighbours == array("I", [2]) * (2 * half) + zeros(half) + array("I", [1]) * half, "runs")
+    for rank in range(3):
+        t.true(asked(starts, neighbours, rank) == (0, neighbours[starts[rank]:starts[rank + 1]]), rank)
+    for lists in ((old_edges + added[:2], added), (old_edges, added + old_edges[:2]), (old_edges + added + added[:2], zeros(0))):
+        number, starts, neighbours = made_index(3, *lists)
+        t.same((number, list(starts)), (20, [7] * 4), "as they were")
+        t.same(neighbours.count(7), len(neighbours), "as they were")
+    added += array("I", [1, 1])
+    t.same(made_index(3, old_edges, added)[0], 5, "the last edge is a loop")
+    added[-1] = 3
+    t.same(made_index(3, old_edges, added)[0], 4, "the last edge names n")
+    old_edges[-1] = 0
+    t.same(made_index(3, old_edges, added)[0], 5, "the old list comes first")

@@ -1,10 +1,10 @@
-"""The oracle itself: document 01's nets on paper, its whole case, and the laws that the document states."""
+"""The oracle itself: document 01's nets on paper, its whole case, the laws that the document states, and runs worked by hand."""
 
 import random
 
 import nets
 from harness import test
-from oracle import blocks, calls
+from oracle import blocks, calls, neighbours
 from oracle.forest import ABSENT, links, loads_of, parents_of, reaches
 
 NONE = ABSENT
@@ -100,3 +100,22 @@ def higher_neighbours(n, ties):
         for y in higher:
             neighbours[y] |= higher
     return counts
+
+
+@test(at_least=12)
+def runs_by_hand(t):
+    """Document 02, Paper 1: an index and its queries; each refusal, and the first of several."""
+    starts, runs = [0, 2, 5, 6, 6], [1, 1, 0, 2, 0, 1]
+    t.same(neighbours.index([0, 1, 1, 2], [1, 0], [9] * 5, [9] * 6), (0, starts, runs))
+    t.same([neighbours.query(starts, runs, rank) for rank in range(5)], [(0, 0, 2), (0, 2, 3), (0, 5, 1), (0, 6, 0), (4, 0, 0)])
+    t.same(neighbours.index([], [], [9], [9]), (1, [9], [9]), "1 before 2")
+    t.same(neighbours.index([0], [], [], [9]), (2, [], [9]), "no starts")
+    t.same(neighbours.index([0], [1], [9] * 3, [9] * 2)[0], 2, "two odd lists")
+    t.same(neighbours.index([1, 1], [], [9] * 3, [9] * 3)[0], 2, "2 before 5")
+    t.same(neighbours.index([0, 1, 1, 1], [2, 2], [9] * 3, [9] * 6)[0], 5, "the first faulty tie")
+    t.same(neighbours.index([0, 1], [2, 2, 1, 1], [9] * 3, [9] * 6)[0], 4, "4 before 5")
+    t.same(neighbours.query([], [7], 0), (2, 0, 0))
+    t.same(neighbours.query([3], [7], 0), (1, 0, 0), "1 before 30")
+    t.same(neighbours.query([0, 2, 1], [7], 2), (30, 0, 0), "30 before 4")
+    t.same(neighbours.query([0, 1], [7, 7], 0), (30, 0, 0), "up to the number of neighbours")
+    t.same(neighbours.query([1, 1], [7], 0), (30, 0, 0), "from 0")

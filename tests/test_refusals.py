@@ -10,7 +10,7 @@ from library import PRESENT
 from oracle import calls
 from oracle.forest import ABSENT
 
-# the refusals that document 01 gives to each call; 20 of a report takes a list of 16,000,001 edges and is in test_limits
+# the refusals that the documents give to each call; 20 of a report and of an index takes 16,000,001 edges and is in test_limits
 NUMBERS = {
     "relabel": {1, 2, 3, 4, 5},
     "start": {1, 2},
@@ -20,6 +20,8 @@ NUMBERS = {
     "read": {1, 2, 6, 7, 20},
     "divide": {1, 2, 8, 30, 22},
     "report": {1, 2, 8, 30, 4, 5, 22, 23},
+    "index": {1, 2, 4, 5},
+    "query": {1, 2, 30, 4},
 }
 
 PLACE = {number: min(place, calls.ORDER.index(4)) if number == 5 else place for place, number in enumerate(calls.ORDER)}

@@ -155,7 +155,7 @@ def broken_splits(t):
     case = next(case for case in map(Case, range(100)) if case.k > 1 and len(case.ties) > case.n)
     for name, data, status, text in (
         ("DIR/block-000.rec", b"abc", 1, "refused 6: not whole records, or not as many as the net has vertices (block-000.rec)\n"),
-        ("DIR/block-000.rec", file_of(0, case.n), 1, "refused 4: an edge names a vertex out of range (block-000.rec)\n"),
+        ("DIR/block-000.rec", file_of(0, case.n), 1, "refused 4: an edge or a query names a vertex out of range (block-000.rec)\n"),
         ("DIR/block-000.rec", file_of(1, 1), 1, "refused 5: both ends of an edge are one vertex (block-000.rec)\n"),
         ("DIR/block-000.rec", None, 2, "block-000.rec: No such file or directory\n"),
         ("DIR/block-900.rec", b"", 1, "block-900.rec is not in the summary\n"),

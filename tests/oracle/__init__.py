@@ -1,2 +1,2 @@
-"""Document 01 in plain Python, written from the document alone: slow, literal, and independent of the library that it judges.
-The words are the document's: marks, ranks, ties, loads, nets."""
+"""Documents 01 and 02 in plain Python, written from the documents alone: slow, literal, and independent of the library that it
+judges. The words are the documents': marks, ranks, ties, loads, nets."""

@@ -1,6 +1,6 @@
 """The history of replay.c, carried out by the oracle alone: the same draws in the same order, and the same lines."""
 
-from oracle import calls
+from oracle import calls, neighbours
 
 NETS, FILES, ROOM, EDGES, BLOCKS = 5, 3, 100, 40, 4
 ANY = 0xFFFFFFFF
@@ -21,6 +21,7 @@ class Model:
         self.nets = [self.any_net(n) for _ in range(NETS)]
         self.files = [self.any_file(n) for _ in range(FILES)]
         self.latest = [[] for _ in range(NETS)]
+        self.indexes = [([], []) for _ in range(NETS)]
         self.answers = []
 
     def draw(self, limit):
@@ -137,10 +138,23 @@ class Model:
         self.figures = f" {bound} {volume}" if number == 0 else " 7 7"
         return f"report {net}", number, after + work
 
+    def index(self, net):
+        """Of the list that was last lent to an addition, and some more."""
+        flat, added = self.latest[net], self.edges(self.vertices(net))
+        lent = self.lent(self.vertices(net) + 1), self.lent(len(flat) + len(added))
+        number, *self.indexes[net] = neighbours.index(flat, added, *lent)
+        return f"index {net}", number, self.indexes[net]
+
+    def query(self, net):
+        rank = self.draw(self.vertices(net) + 1)
+        number, first, count = neighbours.query(*self.indexes[net], rank)
+        self.figures = f" {first} {count}"
+        return f"query {net}", number, []
+
     def step(self):
         """Makes the next call; answers its line."""
         self.figures = ""
-        call, net = self.draw(22), self.draw(NETS)
+        call, net = self.draw(25), self.draw(NETS)
         other, file = (net + 1 + self.draw(NETS - 1)) % NETS, self.draw(FILES)
         if call == 0:
             name, number, lent = self.start(net)
@@ -156,8 +170,12 @@ class Model:
             name, number, lent = self.relabel(net)
         elif call < 20:
             name, number, lent = self.divide(net)
-        else:
+        elif call < 22:
             name, number, lent = self.report(net)
+        elif call < 23:
+            name, number, lent = self.index(net)
+        else:
+            name, number, lent = self.query(net)
         self.answers.append((name.split()[0], number))
         world = [table for net in self.nets for table in net] + self.files
         return f"{name} {number}" + "".join(map(digest, lent)) + self.figures + " :" + "".join(map(digest, world))

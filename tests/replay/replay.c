@@ -19,7 +19,7 @@ typedef struct {
 } Bytes;
 
 static uint64_t state;
-static Table parents[NETS], weights[NETS], latest[NETS];
+static Table parents[NETS], weights[NETS], latest[NETS], starts[NETS], neighbours[NETS];
 static Bytes files[FILES];
 
 /* A number below `limit`: Knuth's multiplier, the upper half of the state. */
@@ -186,9 +186,28 @@ static void report(int net)
     printf(" %" PRIu64 " %" PRIu64, bound, volume);
 }
 
+/* The list that was last lent to an addition, and some more. */
+static void make_index(int net)
+{
+    Table *list = &latest[net], added = edges(vertices(net));
+    starts[net] = lent(vertices(net) + 1), neighbours[net] = lent(list->length + added.length);
+    printf("index %d %u", net, niqastul_index(list->entry, list->length, added.entry, added.length,
+        starts[net].entry, starts[net].length, neighbours[net].entry, neighbours[net].length));
+    print(&starts[net]), print(&neighbours[net]);
+}
+
+static void query(int net)
+{
+    uint32_t rank = draw(vertices(net) + 1);
+    uint64_t first = 7, count = 7;
+    printf("query %d %u", net, niqastul_query(starts[net].entry, starts[net].length, neighbours[net].entry, neighbours[net].length,
+        rank, &first, &count));
+    printf(" %" PRIu64 " %" PRIu64, first, count);
+}
+
 static void step(void)
 {
-    uint32_t call = draw(22);
+    uint32_t call = draw(25);
     int net = (int)draw(NETS), other = (net + 1 + (int)draw(NETS - 1)) % NETS, file = (int)draw(FILES);
     if (call == 0) start(net);
     else if (call < 8) add(net);
@@ -197,7 +216,9 @@ static void step(void)
     else if (call < 17) read(net, file);
     else if (call < 18) relabel(net);
     else if (call < 20) divide(net);
-    else report(net);
+    else if (call < 22) report(net);
+    else if (call < 23) make_index(net);
+    else query(net);
     printf(" :");
     for (int i = 0; i < NETS; i++) print(&parents[i]), print(&weights[i]);
     for (int i = 0; i < FILES; i++) printf(" %08x", digest_bytes(&files[i]));
