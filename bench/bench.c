@@ -2,52 +2,16 @@
  * measurement, its fields separated by tabs: what, family, vertices, edges, then pairs of a name and milliseconds.
  *
  *     bench [MOST [FAMILY]]        up to so many vertices; only families whose name begins so */
-#include "nets.h"
+#include "index.h"
 #include "peers.h"
+#include "timing.h"
 
 #include <malloc.h>
 #include <niqastul.h>
-#include <stdio.h>
 #include <stdlib.h>
 #include <string.h>
-#include <time.h>
 
-/* Of long lists a few rounds have to do, for time's sake. */
-enum { ROUNDS = 15, LONG_ROUNDS = 3, LONG_LIST = 4000000, FEW = 100 };
-
-/* The time that this program had a processor, in milliseconds: what else runs on the machine counts less. */
-static double now(void)
-{
-    struct timespec t;
-    clock_gettime(CLOCK_PROCESS_CPUTIME_ID, &t);
-    return (double)t.tv_sec * 1e3 + (double)t.tv_nsec / 1e6;
-}
-
-/* Runs a statement after another that is not measured, and keeps the least time that it ever took. */
-#define TIME(best, before, statement)          \
-    do {                                       \
-        before;                                \
-        double began_ = now();                 \
-        statement;                             \
-        double took_ = now() - began_;         \
-        best = took_ < best ? took_ : best;    \
-    } while (0)
-
-static void must(int holds, const char *what)
-{
-    if (!holds) {
-        fprintf(stderr, "bench: %s\n", what);
-        exit(1);
-    }
-}
-
-static void *room(size_t count, size_t size)
-{
-    void *p = malloc(count * size + 1);
-    must(p != NULL, "out of memory");
-    memset(p, 1, count * size);
-    return p;
-}
+enum { FEW = 100 };
 
 static struct tables make_tables(size_t n, size_t m)
 {
@@ -135,11 +99,6 @@ static uint64_t pass(const uint32_t *parents, const uint32_t *weights, size_t n)
 
 static volatile uint64_t sink;
 
-static void row(const char *what, const char *family, const struct net *net)
-{
-    printf("%s\t%s\t%zu\t%zu", what, family, net->vertices, net->edges);
-}
-
 /* Every contender runs once in each round, so that what else the machine does meets all alike. */
 static void measure(const char *family, const struct net *net)
 {
@@ -161,7 +120,7 @@ static void measure(const char *family, const struct net *net)
     add(&t, second, second_weights, n, net->list + 2 * half, m - half);
     start(most, most_weights, n);
     add(&t, most, most_weights, n, net->list, m - few);
-    for (int round = 0; round < (m > LONG_LIST ? LONG_ROUNDS : ROUNDS); round++) {
+    for (int round = 0; round < rounds(net); round++) {
         TIME(triplets, free(parents), parents = suitesparse_etree_by_triplets(net));
         TIME(peer, free(parents), parents = suitesparse_etree(net, &t));
         TIME(plain, , plain_grow(net, &t));
@@ -249,6 +208,7 @@ int main(int count, char **words)
             if (sizes[s] <= most && !strncmp(families[f].name, only, strlen(only))) {
                 struct net net = make_net(&families[f], sizes[s]);
                 measure(families[f].name, &net);
+                measure_index(families[f].name, &net);
                 free_net(&net);
             }
     return 0;

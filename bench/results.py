@@ -16,6 +16,8 @@ MEASURED = {
     "divide 16": ("Dividing into 16 blocks", "divide-16", "plain C"),
     "divide 1000": ("Dividing into 1,000 blocks", "divide-1000", "plain C"),
     "report": ("Reporting on a division into 16 blocks", "report", "plain C"),
+    "index": ("Building an index of neighbours", "index", "plain C"),
+    "query": ("Querying an index for one rank", "query", "scan"),
     "threads": ("Growing a net in two threads", "threads", "one thread"),
 }
 
@@ -27,7 +29,10 @@ gcc -O3; `checked C` is plain C that finds the same refusals before it writes an
 net's two tables once. SuiteSparse can neither add nor join: its time there is that of the whole net grown anew. All must come to
 the same parents. Dividing is measured with a limit of a quarter of a block's even share of the total, or the largest weight. A
 report grows the net of the edges and compares it, counts reaches, divides, and counts blocks; SuiteSparse's time there is that of
-`cs_etree` with its columns, `cs_post` and `cs_counts`, whose column counts have to be the reaches. Growing in two threads is
+`cs_etree` with its columns, `cs_post` and `cs_counts`, whose column counts have to be the reaches. An index is built of the list
+in two halves; `plain C` is there the counting sort without refusals, `cs_compress` SuiteSparse's compressed columns of each edge as
+two triplets, which have to be the same tables. A query tests all starts; `one pass` reads them once, and `scan` is what a query
+takes without an index: all edges of the list, each tested for the rank. Growing in two threads is
 `Net::add_in_threads` of the Rust crate on a new net: half of the list in each, then a join; a list of fewer than two edges to a
 vertex is left to one thread. Its times are elapsed ones, the best of 7 rounds, with the allocation of all tables; they need two
 processors that nothing else uses.
@@ -62,7 +67,7 @@ def table(rows, against):
 # Plots: one panel for each family, time against size, both logarithmic.
 
 COLOURS = {"niqastul": "#0072B2", "SuiteSparse": "#D55E00", "plain C": "#777777", "checked C": "#CC79A7", "cs_compress": "#E69F00", "one pass": "#009E73",
-           "two threads": "#0072B2", "one thread": "#D55E00"}
+           "two threads": "#0072B2", "one thread": "#D55E00", "scan": "#D55E00"}
 WIDTH, HEIGHT, LEFT, BOTTOM, TOP, COLUMNS = 250, 170, 40, 34, 26, 4
 
 
