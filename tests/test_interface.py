@@ -1,6 +1,7 @@
 """The header, the library and the tests speak of the same calls; the header compiles as C and as C++; limits are document 01's."""
 
 import ctypes
+import mmap
 import re
 import subprocess
 import tempfile
@@ -77,6 +78,20 @@ def no_pointer(t):
     cells = ctypes.byref(ctypes.c_uint64(7)), ctypes.byref(ctypes.c_uint64(7))
     t.same(LIBRARY.niqastul_query(*table, *none, ctypes.c_uint32(0), *cells), 0)
     t.same(LIBRARY.niqastul_query(*none, *none, ctypes.c_uint32(0), *cells), 2)
+
+
+@test(at_least=6)
+def long_table(t):
+    """A length is a number of 64 bits: of 2^32 neighbours or more none can be named, and no start is the end of the last run. The memory
+    is set aside and never touched."""
+    unreserved = 0x4000
+    memory = mmap.mmap(-1, 4 * (2**32 + 5), flags=mmap.MAP_PRIVATE | mmap.MAP_ANONYMOUS | unreserved)
+    neighbours = ctypes.byref(ctypes.c_char.from_buffer(memory))
+    for last, length, number, part in ((5, 5, 0, (0, 5)), (0, 2**32, 30, (0, 0)), (5, 2**32 + 5, 30, (0, 0))):
+        starts, cells = (ctypes.c_uint32 * 2)(0, last), (ctypes.c_uint64(7), ctypes.c_uint64(7))
+        lent = (starts, ctypes.c_size_t(2)), (neighbours, ctypes.c_size_t(length))
+        t.same(LIBRARY.niqastul_query(*lent[0], *lent[1], ctypes.c_uint32(0), *map(ctypes.byref, cells)), number, length)
+        t.same(tuple(cell.value for cell in cells), part, length)
 
 
 @test(at_least=5)
