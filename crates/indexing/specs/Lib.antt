@@ -1,4 +1,5 @@
 -- The index of neighbours of a list of edges.
 pub mod Index
 pub mod Build
+pub mod Example
 pub mod Steps
