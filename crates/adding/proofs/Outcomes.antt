@@ -1,10 +1,11 @@
 -- What an accepted addition leaves is what its definition says, from what its steps promise.
 -- Assumes nothing.
-use mathlib.Core.Path.{_≡_, ap, ap₂, _∙_}
+use mathlib.Core.Path.{_≡_, refl, ap, ap₂, _∙_}
 use mathlib.Core.Bool.{false}
 use mathlib.Core.List.{List, zipWith}
 use Prim.Native.Nat.{ℕ, _+_}
 use native.Mathlib.Omega.{arith}
+use lib.ListN.{length}
 use Rattle.game.specs.Edge.{edges}
 use Rattle.game.specs.Net.{net, weights}
 use Rattle.game.proofs.Weights.{charges-count}
@@ -13,16 +14,18 @@ use Rattle.game.proofs.Tables.{sum-entry}
 use Rattle.bucket.specs.Ends.{tallied}
 use Rattle.bucket.proofs.Tallied.{tally-weights}
 use Rattle.growth.specs.Work.{withWork, workOf, cleared}
+use Rattle.growth.proofs.Rooms.{same-room}
 use Rattle.adding.specs.Add.{grown}
 use Rattle.inserting.specs.Putting.{Extendable, Weighable, Extends}
 use Rattle.adding.proofs.Accepted.{Addable}
 
 module _ {p w e j l : List ℕ} {xs : List ℕ} (a : Addable (withWork (net p w) (workOf e j l)) xs) where
-  pub add-extendable : Extendable p xs e j l
-  add-extendable = record {
+  -- the list can be taken in, whatever the table of ends has come to hold
+  pub add-extendable : {e′ : List ℕ} → length e′ ≡ length e → Extendable p xs e′ j l
+  add-extendable same = record {
     table = record { few = a .net .few; sound = true-sound (a .net .sound) };
     faultless = a .faultless;
-    long = a .work .ends;
+    long = same ∙ a .work .ends;
     long-jump = a .work .jump;
     room = omega (arith, a .work .lower);
     small = omega (arith, a .work .lower, a .net .few, a .light, charges-count (edges xs));
@@ -35,8 +38,8 @@ module _ {p w e j l : List ℕ} {xs : List ℕ} (a : Addable (withWork (net p w)
     light = record { light = λ v h. omega (arith, sum-entry w v, a .light, a .work .lower, a .net .few, charges-count (edges xs)) };
   }
 
-  pub add-ends : {w′ p′ e′ j′ l′ : List ℕ} → Extends p xs e j l p′ e′ j′ l′ × (w′ ≡ tallied false (edges xs) w) → withWork (net p′ w′) (workOf e′ j′ l′) ≡ withWork (grown (net p w) (edges xs)) (cleared (workOf e j l))
+  pub add-ends : {e″ w′ p′ e′ j′ l′ : List ℕ} → length e″ ≡ length e → Extends p xs e″ j l p′ e′ j′ l′ × (w′ ≡ tallied false (edges xs) w) → withWork (net p′ w′) (workOf e′ j′ l′) ≡ withWork (grown (net p w) (edges xs)) (cleared (workOf e j l))
   unfolding grown
-  add-ends (x, t) = ap₂ withWork
+  add-ends same (x, t) = ap₂ withWork
       (ap₂ net (x .grown) (t ∙ tally-weights (edges xs) w ∙ ap (λ (n : ℕ). zipWith _+_ w (weights n (edges xs))) (a .net .long)))
-      (x .clear)
+      (x .clear ∙ same-room _ _ _ _ _ _ same refl refl)

@@ -1,53 +1,75 @@
-// Adding edges to a net.
+// Adding edges to a net. The tables are read first, then the list for its faults; a long list is counted by upper end in the same sweep.
 use net::Net;
 use refusal::Answer;
 ghost use mathlib.Core.Path.{_≡_};
+ghost use mathlib.Core.Bool.{true, false};
+ghost use Prim.Native.Nat.{_^_, _<_};
+ghost use lib.ListN.{length};
+ghost use Rattle.game.specs.Edge.{edges as edgesOf};
 ghost use Rattle.game.specs.Net.{net};
 ghost use Rattle.growth.specs.Work.{withWork, workOf};
 ghost use Rattle.refusal.specs.Answer.{verdict};
 ghost use Rattle.refusal.specs.Outcome.{ended};
-ghost use Rattle.adding.specs.Add.{addRefusal, addOutcome};
+ghost use Rattle.adding.specs.Add.{addOutcome};
+ghost use Rattle.adding.specs.Steps.{TablesRead, ListRead};
 
-// The number for which adding is refused, or 0.
-fn add_refusal(
+// What the tables tell before the list is read: the number for which adding is refused; or 0, and whether the list is too heavy for the
+// net, that is, would bring its total above the limit. A fault of the list comes before that.
+struct Found {
+    code: u32,
+    heavy: bool,
+}
+
+fn read_tables(
     parents: &[u32],
     weights: &[u32],
     edges: &[u32],
     ends: &[u32],
     jump: &[u32],
     lower: &[u32],
-) -> u32
+) -> Found
     ensures { λ r. ⌜
-        r ≡ addRefusal (withWork (net (now (parents .entry)) (now (weights .entry))) (workOf (now (ends .entry)) (now (jump .entry)) (now (lower .entry)))) (now (edges .entry)) ⌝ }
+        TablesRead (withWork (net (now (parents .entry)) (now (weights .entry))) (workOf (now (ends .entry)) (now (jump .entry)) (now (lower .entry)))) (now (edges .entry)) (r .code) (r .heavy) ⌝ }
 {
     let n = parents.len();
+    let heavy = false;
     if refusal::bad_count(n) {
-        return 1;
+        return Found { code: 1, heavy };
     }
     if weights.len() != n {
-        return 2;
+        return Found { code: 2, heavy };
     }
     if edges.len() % refusal::STRIDE != 0 {
-        return 2;
+        return Found { code: 2, heavy };
     }
-    if growth::bad_work(
-        n,
-        n + edges.len() / refusal::STRIDE,
-        ends.len(),
-        jump.len(),
-        lower.len(),
-    ) {
-        return 2;
+    let m = edges.len() / refusal::STRIDE;
+    if growth::bad_work(n, n + m, ends.len(), jump.len(), lower.len()) {
+        return Found { code: 2, heavy };
     }
     let net = Net::of(weights);
     if net.is_damaged(parents) {
-        return 30;
+        return Found { code: 30, heavy };
     }
-    let fault = refusal::list_fault(n, edges);
+    let total = net.total + m as u64;
+    Found {
+        code: 0,
+        heavy: Net::MAX_TOTAL < total,
+    }
+}
+
+// The number for which the list is refused, or 0. Where it is to be counted, the table of ends has its counts if it is not refused.
+fn read_list(edges: &[u32], ends: &mut [u32], heavy: bool, counted: bool) -> u32
+    requires { ⌜ (counted ≡ true → (heavy ≡ false) × (length (edgesOf (now edges)) < 2 ^ 32)) ⌝ }
+    ensures { λ r. ⌜ ListRead (now (edges .entry)) heavy counted (now (ends .entry)) (now (ends .exit)) r ⌝ }
+{
+    if counted {
+        return bucket::count_upper(edges, ends);
+    }
+    let fault = refusal::list_fault(ends.len(), edges);
     if fault != 0 {
         return fault;
     }
-    if Net::MAX_TOTAL < net.total + (edges.len() / refusal::STRIDE) as u64 {
+    if heavy {
         return 20;
     }
     0
@@ -68,10 +90,16 @@ pub fn add(
         ended (verdict r) (withWork (net (now (parents .exit)) (now (weights .exit))) (workOf (now (ends .exit)) (now (jump .exit)) (now (lower .exit))))
         ≡ addOutcome (withWork (net (now (parents .entry)) (now (weights .entry))) (workOf (now (ends .entry)) (now (jump .entry)) (now (lower .entry)))) (now (edges .entry)) ⌝ }
 {
-    let code = add_refusal(parents, weights, edges, ends, jump, lower);
+    let found = read_tables(parents, weights, edges, ends, jump, lower);
+    if found.code != 0 {
+        return Answer::Refused(found.code);
+    }
+    let long = inserting::is_long(parents.len(), edges.len() / refusal::STRIDE);
+    let counted = long & !found.heavy;
+    let code = read_list(edges, ends, found.heavy, counted);
     if code != 0 {
         return Answer::Refused(code);
     }
-    inserting::extend(parents, weights, edges, ends, jump, lower);
+    inserting::extend(parents, weights, edges, ends, jump, lower, counted);
     Answer::Accepted
 }

@@ -3,6 +3,7 @@ pub mod Counts
 pub mod Below
 pub mod Sources
 pub mod Tallied
+pub mod Upper
 pub mod Starts
 pub mod LowerEnds
 pub mod Storing

@@ -1,5 +1,7 @@
 // A list of edges taken into a net: put in edge by edge, by exchanges, or grown with the whole forest.
 mod extending;
+mod growing;
 mod putting;
 
 pub use extending::extend;
+pub use putting::is_long;

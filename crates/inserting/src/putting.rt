@@ -2,11 +2,9 @@
 // could make every step of it long, so the steps are counted against a budget, and what is left is grown with the whole forest.
 use net::Net;
 ghost use mathlib.Core.Path.{_≡_};
-ghost use mathlib.Core.Bool.{true};
 ghost use Prim.Native.Nat.{_+_, _≤_, _<_};
 ghost use lib.ListN.{length};
 ghost use Rattle.game.specs.Edge.{edges as edgesOf, _─_};
-ghost use Rattle.game.specs.Tree.{sound};
 ghost use Rattle.refusal.specs.Limits.{maxVertices};
 ghost use Rattle.refusal.specs.Refusal.{firstFault};
 ghost use Rattle.inserting.specs.Putting.{Table, Exchanged, Put, PutUpTo, Extendable, Extends};
@@ -85,19 +83,16 @@ fn put_some(parents: &mut [u32], edges: &[u32], budget: usize) -> usize
     i
 }
 
-// Whether a list of m edges is long for n vertices: then it is not worth putting in one by one.
-pub fn is_long(n: usize, m: usize) -> bool {
-    n / 8 <= m
-}
-
-// How many exchanges a list of m edges is worth before the whole forest of n vertices is grown.
-fn budget(n: usize, m: usize) -> usize
+// How many exchanges a list is worth before the whole forest of n vertices is grown.
+fn budget(n: usize) -> usize
     ensures { λ r. ⌜ r ≤ n ⌝ }
 {
-    if is_long(n, m) {
-        return 0;
-    }
     n / 8
+}
+
+// Whether a list of m edges is long for n vertices: then it is not worth putting in one by one.
+pub fn is_long(n: usize, m: usize) -> bool {
+    budget(n) <= m
 }
 
 // Makes the parents those of the elimination game on the old links and the edges of the list, and clears the work tables.
@@ -111,7 +106,7 @@ pub fn insert(
     requires { ⌜ Extendable (now parents) (now edges) (now ends) (now jump) (now lower) ⌝ }
     ensures { λ _. ⌜ Extends (now (parents .entry)) (now (edges .entry)) (now (ends .entry)) (now (jump .entry)) (now (lower .entry)) (now (parents .exit)) (now (ends .exit)) (now (jump .exit)) (now (lower .exit)) ⌝ }
 {
-    let most = budget(parents.len(), edges.len() / refusal::STRIDE);
+    let most = budget(parents.len());
     let at = put_some(parents, edges, most);
     if edges.len() <= at + 1 {
         growth::clear(ends, jump, lower, 0);

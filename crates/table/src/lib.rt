@@ -1,5 +1,6 @@
-// Tables: numbers as places in them, and whole tables filled with one number or copied.
+// Tables: numbers as places in them, and whole tables filled with one number, found to hold one alone, or copied.
 ghost use mathlib.Core.Path.{_≡_};
+ghost use mathlib.Core.Bool.{true};
 ghost use Prim.Native.Nat.{_^_, _<_};
 ghost use lib.ListN.{length, replicate};
 
@@ -34,6 +35,19 @@ pub fn fill(table: &mut [u32], x: u32)
         table[i] = x;
         i += 1;
     }
+}
+
+// Whether every entry of a table is x: a scan to the end, which is quicker than one that stops.
+pub fn is_all(table: &[u32], x: u32) -> bool
+    ensures { λ r. ⌜ (r ≡ true → now (table .entry) ≡ replicate (length (now (table .entry))) x) ⌝ }
+{
+    let mut all = true;
+    let mut i = 0;
+    while i < table.len() {
+        all = all & (table[i] == x);
+        i += 1;
+    }
+    all
 }
 
 // Copies a table.

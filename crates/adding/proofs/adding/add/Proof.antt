@@ -1,15 +1,17 @@
 use mathlib.Core.Path.{refl, sym, _∙_}
+use native.Mathlib.Omega.{arith}
 use Rattle.refusal.specs.Answer.{verdict}
 use Rattle.refusal.proofs.Ends.{ends-refused, ends-accepted}
 use Rattle.adding.specs.Add.{addOutcome}
 use Rattle.adding.proofs.Accepted.{addable}
 use Rattle.adding.proofs.Outcomes.{add-extendable, add-weighable, add-ends}
+use Rattle.adding.proofs.Steps.{counted-light, list-decides, list-refused, list-counted}
 use borrow.Author.Needs.{needs}
 use Rattle.adding.proofs.adding.add.Statement.{statement}
 use Rattle.adding.proofs.adding.add.Tie as tie
 
-add-refusal-requires : tie.Need-add-refusal-requires
-add-refusal-requires c κs = search needs
+read-tables-requires : tie.Need-read-tables-requires
+read-tables-requires c κs = search needs
 
 same-length : tie.Need-same-length
 same-length c = search needs
@@ -28,12 +30,17 @@ same-length-5 c = search needs
 
 returns : tie.Need-returns
 unfolding verdict addOutcome
-returns c = ends-refused _ _ _ _ (c .before .add-refusal .ensures) (λ z. c .if1 .taken (c .before .add-refusal .ensures ∙ z)) refl
+returns c =
+    let e = c .before .before .read-tables .ensures .refused (c .if1 .taken) in
+    ends-refused _ _ _ _ e (λ z. c .if1 .taken (e ∙ z)) refl
 
-extend-requires : tie.Need-extend-requires
-extend-requires c κs =
-    let a = addable _ _ (sym (c .before .before .before .before .before .before .add-refusal .ensures) ∙ c .before .before .before .before .before .if1 .left) in
-    (add-extendable a, add-weighable a)
+is-long-requires : tie.Need-is-long-requires
+is-long-requires c κs = search needs
+
+read-list-requires : tie.Need-read-list-requires
+read-list-requires c κs =
+    λ t. let l = counted-light (c .before .before .is-long .result) (c .before .before .before .before .before .read-tables .result .heavy) t in
+    (l, omega (arith, c .before .before .before .before .before .read-tables .ensures .passed (c .before .before .before .if1 .left) .few l))
 
 same-length-6 : tie.Need-same-length-6
 same-length-6 c = search needs
@@ -51,26 +58,64 @@ same-length-10 : tie.Need-same-length-10
 same-length-10 c = search needs
 
 returns-2 : tie.Need-returns-2
-unfolding verdict addOutcome
+unfolding verdict
 returns-2 c =
-    let z = sym (c .before .before .before .before .before .before .before .before .before .before .before .before .before .before .before .before .before .add-refusal .ensures) ∙ c .before .before .before .before .before .before .before .before .before .before .before .before .before .before .before .before .if1 .left in
-    ends-accepted _ _ _ _ refl z (add-ends (addable _ _ z) (c .before .before .before .before .before .before .before .before .before .before .extend .ensures))
+    list-refused (c .before .before .before .before .before .before .before .before .before .read-tables .ensures .passed (c .before .before .before .before .before .before .before .if1 .left)) (c .before .before .before .read-list .ensures) (c .if2 .taken)
+
+extend-requires : tie.Need-extend-requires
+extend-requires c κs =
+    let r : tie.After-read-list = c .before .before .before .before .before .before .before .before in
+    let o = c .before .before .before .before .before .before .before .before .before .before .before .before .before .before .read-tables .ensures .passed (c .before .before .before .before .before .before .before .before .before .before .before .before .if1 .left) in
+    let z = c .before .before .before .before .before .if2 .left in
+    let a = addable _ _ (sym (list-decides o (r .read-list .ensures)) ∙ z) in
+    (add-extendable a (r .read-list .kept .1 .0), add-weighable a, list-counted o (r .read-list .ensures) z)
+
+same-length-11 : tie.Need-same-length-11
+same-length-11 c = search needs
+
+same-length-12 : tie.Need-same-length-12
+same-length-12 c = search needs
+
+same-length-13 : tie.Need-same-length-13
+same-length-13 c = search needs
+
+same-length-14 : tie.Need-same-length-14
+same-length-14 c = search needs
+
+same-length-15 : tie.Need-same-length-15
+same-length-15 c = search needs
+
+returns-3 : tie.Need-returns-3
+unfolding verdict addOutcome
+returns-3 c =
+    let r : tie.After-read-list = c .before .before .before .before .before .before .before .before .before .before .before .before .before .before .before .before .before .before .before in
+    let o = c .before .before .before .before .before .before .before .before .before .before .before .before .before .before .before .before .before .before .before .before .before .before .before .before .before .read-tables .ensures .passed (c .before .before .before .before .before .before .before .before .before .before .before .before .before .before .before .before .before .before .before .before .before .before .before .if1 .left) in
+    let z = sym (list-decides o (r .read-list .ensures)) ∙ c .before .before .before .before .before .before .before .before .before .before .before .before .before .before .before .before .if2 .left in
+    ends-accepted _ _ _ _ refl z (add-ends (addable _ _ z) (r .read-list .kept .1 .0) (c .before .before .before .before .before .before .before .before .before .before .extend .ensures))
 
 pub add-spec : {M : Type 1} → statement M
 add-spec =
     tie.close
     (tie.spec
-    add-refusal-requires
+    read-tables-requires
     same-length
     same-length-2
     same-length-3
     same-length-4
     same-length-5
     returns
-    extend-requires
+    is-long-requires
+    read-list-requires
     same-length-6
     same-length-7
     same-length-8
     same-length-9
     same-length-10
-    returns-2)
+    returns-2
+    extend-requires
+    same-length-11
+    same-length-12
+    same-length-13
+    same-length-14
+    same-length-15
+    returns-3)

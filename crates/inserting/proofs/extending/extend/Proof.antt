@@ -1,39 +1,12 @@
-use mathlib.Core.Path.{refl, sym, ap, _∙_}
-use Prim.Native.Nat.{ℕ}
-use Rattle.game.specs.Edge.{edges as edgesOf}
-use Rattle.refusal.specs.Refusal.{firstFault}
-use Rattle.bucket.proofs.Reading.{filed-consecutive}
-use Rattle.growth.proofs.NewParents.{links-blank}
-use Rattle.growth.proofs.Regrown.{grown-filed}
-use Rattle.inserting.proofs.First.{first-links, light-list}
-use Rattle.growth.proofs.Rooms.{same-room}
-use native.Mathlib.Omega.{arith}
 use borrow.Author.Needs.{needs}
+use Rattle.inserting.proofs.First.{list-weighs}
 use Rattle.inserting.proofs.extending.extend.Statement.{statement}
 use Rattle.inserting.proofs.extending.extend.Tie as tie
 
-is-long-requires : tie.Need-is-long-requires
-is-long-requires c κs = search needs
-
-is-blank-requires : tie.Need-is-blank-requires
-is-blank-requires c κs = search needs
-
-file-list-requires : tie.Need-file-list-requires
-file-list-requires c κs =
-    let e = c .before .before .before .before .before .before .before .before .before .before .before .before .before .pre .0 in
-    (ap (λ (n : ℕ). firstFault n (edgesOf (c .before .before .before .before .before .before .before .before .before .before .before .before .before .args .edges .now))) (e .long) ∙ e .faultless, (omega (arith, e .room), omega (arith, e .small)))
-
-grow-requires : tie.Need-grow-requires
-grow-requires c κs =
-    let e = c .before .before .before .before .before .before .before .before .before .before .before .before .before .before .before .before .before .before .before .before .before .before .before .pre .0 in
-    let f = c .before .before .before .before .before .before .before .before .before .file-list .ensures in (
-      record {
-        long = sym (f .long ∙ e .long);
-        long-jump = e .long-jump ∙ sym (f .long ∙ e .long);
-        buckets = filed-consecutive f (omega (arith, e .long, e .table .few));
-      },
-      record { light = λ v h. omega (arith, c .before .before .before .before .before .before .before .before .before .before .before .before .before .before .before .before .before .before .before .before .before .before .before .pre .1 .light .light v h, c .before .before .before .before .before .before .before .before .before .file-list .kept .1 .1 .0) },
-    )
+grow-counted-requires : tie.Need-grow-counted-requires
+grow-counted-requires c κs =
+    let s : tie.Start = c .before .before .before .before .before .before .before .before .before .before .before .before in
+    (s .pre .0, s .pre .1, s .pre .2 (c .before .before .before .before .before .if1 .taken))
 
 same-length : tie.Need-same-length
 same-length c = search needs
@@ -51,21 +24,12 @@ same-length-5 : tie.Need-same-length-5
 same-length-5 c = search needs
 
 returns : tie.Need-returns
-returns c =
-    let e = c .before .before .before .before .before .before .before .before .before .before .before .before .before .before .before .before .before .before .before .before .before .before .before .before .before .before .before .before .before .before .before .before .before .before .pre .0 in
-    let blank = c .before .before .before .before .before .before .before .before .before .before .before .before .before .before .before .before .before .before .before .before .before .before .before .before .is-blank .ensures (c .before .before .before .before .before .before .before .before .before .before .before .before .before .before .before .before .before .before .before .before .before .before .before .if2 .taken) in
-    let g = grown-filed (c .before .before .before .before .before .before .before .before .before .before .before .before .before .before .before .before .before .before .before .before .file-list .ensures) (links-blank _ blank) (c .before .before .before .before .before .before .before .before .before .before .grow .ensures .grown) in (
-      record {
-        grown = g .0 ∙ first-links _ blank (e .long);
-        clear = c .before .before .before .before .before .before .before .before .before .before .grow .ensures .clear ∙ same-room _ _ _ _ _ _ (c .before .before .before .before .before .before .before .before .before .before .before .before .before .before .before .before .before .before .before .before .file-list .kept .1 .0) refl (c .before .before .before .before .before .before .before .before .before .before .before .before .before .before .before .before .before .before .before .before .file-list .kept .1 .1 .0);
-      },
-      g .1,
-    )
+returns c = search needs
 
 tally-requires : tie.Need-tally-requires
 tally-requires c κs =
-    let e = c .before .before .before .before .before .before .before .before .before .pre .0 in
-    (ap (λ (n : ℕ). firstFault n (edgesOf (c .before .before .before .before .before .before .before .before .before .args .edges .now))) (c .before .before .before .before .before .before .before .before .before .pre .1 .long) ∙ e .faultless, light-list (c .before .before .before .before .before .before .before .before .before .pre .1 .light) (omega (arith, e .room)) (omega (arith, e .small)))
+    let s : tie.Start = c .before .before .before .before .before .before .before .before in
+    list-weighs (s .pre .0) (s .pre .1)
 
 insert-requires : tie.Need-insert-requires
 insert-requires c κs = search needs
@@ -92,10 +56,7 @@ pub extend-spec : {M : Type 1} → statement M
 extend-spec =
     tie.close
     (tie.spec
-    is-long-requires
-    is-blank-requires
-    file-list-requires
-    grow-requires
+    grow-counted-requires
     same-length
     same-length-2
     same-length-3
