@@ -126,7 +126,8 @@ static void measure(const char *family, const struct net *net)
         TIME(plain, , plain_grow(net, &t));
         must(!memcmp(parents, t.parents, 4 * n), "plain C and SuiteSparse disagree");
 
-        TIME(grow, memset(t.parents, 1, 4 * n), (start(t.parents, t.weights, n), add(&t, t.parents, t.weights, n, net->list, m)));
+        /* plain C leaves its counts in the table of ends; a call leaves zeros, so that is how the next one finds it */
+        TIME(grow, (memset(t.parents, 1, 4 * n), memset(t.ends, 0, 4 * n)), (start(t.parents, t.weights, n), add(&t, t.parents, t.weights, n, net->list, m)));
         must(!memcmp(parents, t.parents, 4 * n), "the library and SuiteSparse disagree on growing");
 
         TIME(added, (memcpy(t.parents, most, 4 * n), memcpy(t.weights, most_weights, 4 * n)),
