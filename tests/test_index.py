@@ -11,7 +11,7 @@ from library import PRESENT
 from oracle.forest import ABSENT, ties_of
 from oracle.neighbours import index_of, run_of
 
-INDEX, QUERY = PRESENT.get("index"), PRESENT.get("query")
+INDEX, QUERY = PRESENT["index"], PRESENT["query"]
 
 
 def made(t, rng, n, old_edges, added=()):

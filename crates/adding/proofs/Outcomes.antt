@@ -12,7 +12,7 @@ use Rattle.game.proofs.Weights.{charges-count}
 use Rattle.game.proofs.Sound.{true-sound}
 use Rattle.game.proofs.Tables.{sum-entry}
 use Rattle.bucket.specs.Ends.{tallied}
-use Rattle.bucket.proofs.Tallied.{tally-weights}
+use Rattle.bucket.proofs.Ends.{tally-weights}
 use Rattle.growth.specs.Work.{withWork, workOf, cleared}
 use Rattle.growth.proofs.Rooms.{same-room}
 use Rattle.adding.specs.Add.{grown}

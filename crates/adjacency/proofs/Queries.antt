@@ -9,8 +9,9 @@ use lib.Dec.{leb}
 use lib.ListN.{length, getD, take, drop}
 use borrow.Author.Tests.{le-leb, lt-leb, ne-eqb}
 use Rattle.game.specs.Table.{tabulate}
-use Rattle.game.specs.Edge.{Edge, edges}
+use Rattle.game.specs.Edge.{Edge, _─_, edges}
 use Rattle.game.specs.Graph.{Proper}
+use Rattle.game.proofs.Proper.{proper-head, proper-right}
 use Rattle.game.proofs.Tables.{tabulate-length, tabulate-entry, tabulate-ext}
 use Rattle.refusal.specs.Refusal.{given, first, badCount}
 use Rattle.refusal.specs.Verdict.{accepted}
@@ -24,6 +25,7 @@ use Rattle.indexing.proofs.Accepted.{Accepted, index-accepted}
 use Rattle.querying.specs.Query.{rises, queryRefusal, Answered, answered, queryOutcome}
 use Rattle.querying.proofs.Accepted.{place-refused, place-accepted}
 use Rattle.adjacency.specs.Neighbours.{Indexed}
+use Rattle.adjacency.proofs.Runs.{two-runs}
 use Rattle.adjacency.proofs.Offsets.{offsets-length, offsets-rise, offsets-part, sizes-length, flatten-length}
 
 -- The index of a list of edges on n vertices, as a query finds it.
@@ -86,12 +88,13 @@ index-queries t old added e =
     let z : indexRefusal t old added ≡ 0 = accepted-none _ _ e in
     let n : ℕ = vertices t in
     let es : List Edge = edges old ++ edges added in
-    let a : Accepted t old added = index-accepted t old added z in
+    let sure : Accepted t old added = index-accepted t old added z in
     let k : vertices (indexOf n es) ≡ n = index-vertices n es in
     rw (unless-accepted (indexRefusal t old added) t (indexOf n es) z)
     (record {
-      answers = λ v h. index-answers n es (a .count) v (rw k at h);
-      no-vertex = λ v h. index-no-vertex n es (a .count) v (rw k at h);
-      laid = rw k (index-laid n es (a .count));
-      entries = index-entries n es (a .lists .proper);
+      answers = λ v h. index-answers n es (sure .count) v (rw k at h);
+      no-vertex = λ v h. index-no-vertex n es (sure .count) v (rw k at h);
+      twice = λ before a b behind q. two-runs before a b behind (proper-head (proper-right before ((a ─ b) ∷ behind) (rw q at (sure .lists .proper))) .2);
+      laid = rw k (index-laid n es (sure .count));
+      entries = index-entries n es (sure .lists .proper);
     })

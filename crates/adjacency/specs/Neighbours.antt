@@ -23,6 +23,8 @@ pub record Indexed (t : Index) (es : List Edge) : Type 0 where
   pub answers : (v : ℕ) → v < vertices t → queryOutcome t v ≡ answered (run es v) 0
   -- of no vertex nothing, and 4,
   pub no-vertex : (v : ℕ) → vertices t ≤ v → queryOutcome t v ≡ answered [] 4
+  -- every edge in exactly two runs,
+  pub twice : (before : List Edge) (a b : ℕ) (behind : List Edge) → es ≡ before ++ (a ─ b) ∷ behind → InTwoRuns before a b behind
   -- and all runs, "laid end to end by rising rank", are the index; two entries to an edge
   pub laid : flatten (tabulate (vertices t) (λ (v : ℕ). queryOutcome t v .part)) ≡ t .neighbours
   pub entries : length (t .neighbours) ≡ 2 * length es

@@ -13,11 +13,11 @@ use Rattle.game.specs.Net.{Net, net, netOf, weight, weights}
 use Rattle.game.proofs.Tables.{tabulate-ext}
 use Rattle.game.proofs.Forest.{forest-length}
 use Rattle.game.proofs.Weights.{weights-length}
-use Rattle.bucket.specs.Ends.{ending, tallied}
+use Rattle.bucket.specs.Ends.{endOf, ending, tallied}
 use Rattle.bucket.specs.Filed.{Filed}
-use Rattle.bucket.proofs.Below.{ending-weight}
+use Rattle.bucket.proofs.Ends.{ending-weight}
 use Rattle.bucket.proofs.Reading.{filed-consecutive}
-use Rattle.bucket.proofs.Tallied.{tallied-zeros}
+use Rattle.sorting.proofs.Tallied.{tallied-zeros}
 use Rattle.growth.specs.Work.{Work, workOf, cleared}
 use Rattle.growth.specs.Growth.{Growable, Light, Grown}
 use Rattle.growth.proofs.NewParents.{links-blank}
@@ -38,8 +38,8 @@ module _ {xs p w e j l : List ℕ} (c : ListFits xs (net p w) (workOf e j l)) {p
   pub net-growable : Growable e′ l′ p′ j × Light w′ l′
   net-growable = (
     record {
-      long = ap length blank ∙ length-replicate (length p) absent ∙ sym (filed .long);
-      long-jump = c .jump ∙ sym (filed .long);
+      long = ap length blank ∙ length-replicate (length p) absent ∙ sym (filed .sorted .long);
+      long-jump = c .jump ∙ sym (filed .sorted .long);
       buckets = filed-consecutive filed (c .vertices);
     },
     record { light = λ v h. let n = rw light at h in omega (arith, ap (λ (t : List ℕ). getD t v 0) light, getD-replicate {A = ℕ} (length w) v 0 0 (omega (arith, ap length light, length-replicate {A = ℕ} (length w) 0)), small) },
@@ -57,7 +57,7 @@ module _ {xs p w e j l : List ℕ} (c : ListFits xs (net p w) (workOf e j l)) {p
     where
       zeros : tallied false (edges xs) w′ ≡ tabulate (length p) (weight (edges xs))
       zeros =
-          ap (tallied false (edges xs)) (light ∙ ap (λ (n : ℕ). replicate n 0) (c .weights)) ∙ tallied-zeros false (length p) (edges xs)
+          ap (tallied false (edges xs)) (light ∙ ap (λ (n : ℕ). replicate n 0) (c .weights)) ∙ tallied-zeros (endOf false) (length p) (edges xs)
           ∙ tabulate-ext (length p) (ending false (edges xs)) (weight (edges xs)) (λ v h. ending-weight (edges xs) v)
 
 -- what comparing leaves, once the edges' net is grown

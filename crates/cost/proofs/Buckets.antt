@@ -19,9 +19,10 @@ use Rattle.game.specs.Graph.{Linked}
 use Rattle.game.proofs.Tables.{tabulate-unique}
 use Rattle.game.proofs.Weights.{weight-count}
 use Rattle.refusal.specs.Limits.{maxVertices}
-use Rattle.bucket.specs.Ends.{below}
-use Rattle.bucket.specs.Filed.{begin, bucketOf, Filed}
-use Rattle.bucket.proofs.Below.{below-zero}
+use Rattle.bucket.specs.Ends.{endOf, below}
+use Rattle.sorting.specs.Sorted.{begin, bucketOf}
+use Rattle.bucket.specs.Filed.{Filed}
+use Rattle.sorting.proofs.Keys.{below-zero}
 use Rattle.bucket.proofs.Reading.{filed-consecutive, filed-begin, filed-end, filed-holds, filed-has}
 use Rattle.packing.specs.Pack.{maxBlocks}
 use Rattle.groups.proofs.Lists.{test-cases}
@@ -157,7 +158,7 @@ module _ {n : ℕ} {es : List Edge} {ends lower : List ℕ} (f : Filed n es ends
   inside y i h l = by-cases (decLt i (below y es)) (earlier y h) (λ (o : i < below y es → ⊥). omega (arith, filed-holds f y i h (omega arith) l .0))
     where
       earlier : (y : ℕ) → y < n → i < below y es → getD lower i 0 < n
-      earlier zero h l = absurd (omega (arith, below-zero es))
+      earlier zero h l = absurd (omega (arith, below-zero (endOf true) es))
       earlier (suc y) h l =
           by-cases (decLt i (below y es)) (earlier y (omega arith))
           (λ (o : i < below y es → ⊥). omega (arith, filed-holds f y i (omega arith) (omega arith) (rw (← add-one y) at l) .0))
@@ -167,11 +168,11 @@ module _ {n : ℕ} {es : List Edge} {ends lower : List ℕ} (f : Filed n es ends
       → Bucketed ends lower weights block table stamps
   filed-bucketed few weighed blocked table blocks small fresh = record {
     buckets = filed-consecutive f few;
-    neighbours = λ y i h l. let g : y < n = omega (arith, f .long) in omega (arith, inside y i g (omega (arith, f .end-at y g)), f .long);
-    weighed = weighed ∙ sym (f .long);
-    blocked = blocked ∙ sym (f .long);
-    table = table ∙ sym (f .long);
-    blocks = λ x h. blocks x (omega (arith, f .long));
+    neighbours = λ y i h l. let g : y < n = omega (arith, f .sorted .long) in omega (arith, inside y i g (omega (arith, f .sorted .end-at y g)), f .sorted .long);
+    weighed = weighed ∙ sym (f .sorted .long);
+    blocked = blocked ∙ sym (f .sorted .long);
+    table = table ∙ sym (f .sorted .long);
+    blocks = λ x h. blocks x (omega (arith, f .sorted .long));
     small = small;
     fresh = fresh;
   }
@@ -183,7 +184,7 @@ module _ {n : ℕ} {es : List Edge} {ends lower : List ℕ} (f : Filed n es ends
 
     bucket-length : length bucket ≡ getD ends y 0 - begin ends y
     unfolding bucket bucketOf
-    bucket-length = part-length (begin ends y) (getD ends y 0) lower (omega (arith, filed-end f y h, f .fits))
+    bucket-length = part-length (begin ends y) (getD ends y 0) lower (omega (arith, filed-end f y h, f .sorted .fits))
 
     bucket-entry : (i : ℕ) → i < length bucket → getD bucket i 0 ≡ getD lower (begin ends y + i) 0
     unfolding bucket bucketOf
@@ -202,7 +203,7 @@ module _ {n : ℕ} {es : List Edge} {ends lower : List ℕ} (f : Filed n es ends
         lower-one : List·Memᴰ j (map (λ (u : ℕ). getD block u 0) bucket) → List·Memᴰ j (blocksAt block es y)
         lower-one i =
             let (k, l, q) = map-in (λ (u : ℕ). getD block u 0) bucket i in
-            let g = filed-holds f y (begin ends y + k) h (omega (arith, filed-begin f y (omega arith))) (omega (arith, bucket-length, f .end-at y h)) in
+            let g = filed-holds f y (begin ends y + k) h (omega (arith, filed-begin f y (omega arith))) (omega (arith, bucket-length, f .sorted .end-at y h)) in
             rw (q, bucket-entry k l) (lower-at block es y (g .0) (g .1))
 
     at-met : (j : ℕ) → List·Memᴰ j (blocksAt block es y) → List·Memᴰ j (metBlocks block y (getD weights y 0) bucket)
@@ -218,7 +219,7 @@ module _ {n : ℕ} {es : List Edge} {ends lower : List ℕ} (f : Filed n es ends
         lower-one (u, l, e, q) =
             let (i, a, b, r) = filed-has f u y e l in
             let k : ℕ = i - begin ends y in
-            let g : k < length bucket = omega (arith, bucket-length, filed-begin f y (omega arith), f .end-at y h) in
+            let g : k < length bucket = omega (arith, bucket-length, filed-begin f y (omega arith), f .sorted .end-at y h) in
             let s : begin ends y + k ≡ i = omega (arith, filed-begin f y (omega arith)) in
             Memᴰ·append-right (ownBlock (getD weights y 0) (getD block y 0))
             (subst (λ (v : ℕ). List·Memᴰ v (map (λ (u : ℕ). getD block u 0) bucket))

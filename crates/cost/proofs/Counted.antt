@@ -33,6 +33,6 @@ module _ {es : List Edge} {weights block ends lower table : List ℕ} (c : Count
 
   pub counts-are : {table′ : List ℕ} → table′ ≡ tabulate (length ends) (countIn ends lower weights block (length stamps)) → table′ ≡ tabulate (length block) (blockCount maxBlocks block es)
   counts-are t =
-      t ∙ (λ i. tabulate (c .filed .long i) (countIn ends lower weights block (all-stamps s i)))
+      t ∙ (λ i. tabulate (c .filed .sorted .long i) (countIn ends lower weights block (all-stamps s i)))
       ∙ tabulate-ext (length block) (countIn ends lower weights block maxBlocks) (blockCount maxBlocks block es)
       (λ y h. count-filed (c .filed) weights block y h (ap (λ (w : List ℕ). getD w y 0) (c .weighed) ∙ weights-entry (length block) es h) maxBlocks)

@@ -16,7 +16,7 @@ use borrow.Author.Tests.{eq-eqb, ne-eqb}
 use Rattle.game.specs.Table.{tabulate, member}
 use Rattle.game.proofs.Bools.{or-right}
 use Rattle.game.proofs.Tables.{member-in, in-member, tabulate-length}
-use Rattle.bucket.proofs.Counts.{count-le, count-none}
+use Rattle.sorting.proofs.Counts.{count-le, count-none}
 use Rattle.groups.proofs.Lists.{stretch, sum-agree}
 use Rattle.groups.proofs.Sums.{only, total, total-add, total-here}
 use Rattle.reach.proofs.Counts.{bool-iff, count-ext}

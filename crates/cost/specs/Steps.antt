@@ -9,7 +9,8 @@ use Rattle.game.specs.Table.{member}
 use Rattle.game.specs.Edge.{Edge}
 use Rattle.game.specs.Net.{weights as weightsOf}
 use Rattle.refusal.specs.Limits.{maxVertices}
-use Rattle.bucket.specs.Filed.{Consecutive, bucketOf, Filed}
+use Rattle.sorting.specs.Sorted.{bucketOf}
+use Rattle.bucket.specs.Filed.{Consecutive, Filed}
 use Rattle.packing.specs.Pack.{maxBlocks}
 use Rattle.cost.specs.Figures.{different}
 

@@ -15,7 +15,7 @@ use Rattle.game.specs.Net.{net, weights, netOf}
 use Rattle.game.proofs.Forest.{forest-length, join-law-left, join-law}
 use Rattle.game.specs.Graph.{Proper}
 use Rattle.game.proofs.Weights.{weight-append, weights-length, weights-entry}
-use Rattle.bucket.proofs.Tallied.{zip-length, zip-entry}
+use Rattle.sorting.proofs.Tallied.{zip-length, zip-entry}
 use Rattle.adding.specs.Add.{grown}
 use Rattle.joining.specs.Join.{joined}
 

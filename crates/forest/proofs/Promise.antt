@@ -25,7 +25,7 @@ use Rattle.refusal.proofs.Ends.{accepted-none}
 use Rattle.refusal.proofs.Never.{end-not, other-not, false-not, fault-not, verdict-not}
 use Rattle.refusal.proofs.Fault.{faultless-proper}
 use Rattle.net.specs.Damage.{damaged}
-use Rattle.bucket.proofs.Tallied.{zip-length}
+use Rattle.sorting.proofs.Tallied.{zip-length}
 use Rattle.growth.specs.Work.{NetWithWork}
 use Rattle.starting.specs.Start.{startRefusal, startOutcome}
 use Rattle.adding.specs.Add.{grown, addRefusal, addOutcome}

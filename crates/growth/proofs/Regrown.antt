@@ -16,14 +16,14 @@ use Rattle.growth.specs.Growth.{LinksIn, Grown, Growable, Regrows}
 
 -- what is filed has room to be grown
 pub filed-growable : {n : ℕ} {E : List Edge} {ends lower p jump : List ℕ} → Filed n E ends lower → n ≤ maxVertices → length p ≡ n → length jump ≡ n → Growable ends lower p jump
-filed-growable f few e g = record { long = e ∙ sym (f .long); long-jump = g ∙ sym (f .long); buckets = filed-consecutive f few }
+filed-growable f few e g = record { long = e ∙ sym (f .sorted .long); long-jump = g ∙ sym (f .sorted .long); buckets = filed-consecutive f few }
 
 -- what was filed is grown
 pub regrown : {n : ℕ} {E : List Edge} {ends lower p jump p′ ends′ lower′ jump′ : List ℕ} → Proper n E → Filed n E ends lower → LinksIn p E → Regrows ends lower p jump p′ ends′ lower′ jump′ → p′ ≡ forest n E
 regrown {n} {E} {ends} {lower} {p} {p′ = p′} k f i r =
-    subst (λ (m : ℕ). Proper m E → Filed m E ends lower → p′ ≡ forest m E) (f .long) (λ g h. r .grown E g h i) k f
+    subst (λ (m : ℕ). Proper m E → Filed m E ends lower → p′ ≡ forest m E) (f .sorted .long) (λ g h. r .grown E g h i) k f
 
 -- what was filed is grown with its weights
 pub grown-filed : {n : ℕ} {E : List Edge} {ends lower weights p p′ weights′ : List ℕ} → Filed n E ends lower → LinksIn p E → Grown ends lower weights p p′ weights′ → (p′ ≡ forest n E) × (weights′ ≡ tallied false E weights)
 grown-filed {n} {E} {ends} {lower} {weights} {p′ = p′} {weights′ = weights′} f i g =
-    subst (λ (m : ℕ). Proper m E → Filed m E ends lower → (p′ ≡ forest m E) × (weights′ ≡ tallied false E weights)) (f .long) (λ k h. (g .parents E k h i, g .weighed E h)) (f .proper) f
+    subst (λ (m : ℕ). Proper m E → Filed m E ends lower → (p′ ≡ forest m E) × (weights′ ≡ tallied false E weights)) (f .sorted .long) (λ k h. (g .parents E k h i, g .weighed E h)) (f .proper) f

@@ -14,10 +14,11 @@ use lib.Seq.{length-take-le, getD-set-same, getD-set-other, take-suc, take-at, d
 use borrow.Author.Tests.{eq-eqb, ne-eqb}
 use Rattle.game.specs.Table.{count, one-if}
 use Rattle.game.specs.Edge.{Edge}
-use Rattle.bucket.specs.Ends.{tallied}
-use Rattle.bucket.specs.Filed.{begin, Filed}
-use Rattle.bucket.proofs.Counts.{count-append, count-le}
-use Rattle.bucket.proofs.Tallied.{tallied-unique}
+use Rattle.bucket.specs.Ends.{endOf, tallied}
+use Rattle.sorting.specs.Sorted.{begin}
+use Rattle.bucket.specs.Filed.{Filed}
+use Rattle.sorting.proofs.Counts.{count-append, count-le}
+use Rattle.sorting.proofs.Tallied.{tallied-unique}
 use Rattle.bucket.proofs.Reading.{filed-begin}
 use Rattle.bucket.proofs.Weighed.{filed-weight}
 use Rattle.growth.specs.Growth.{Weighs, leftOf, ReadUpTo}
@@ -166,5 +167,5 @@ weighs-stretch was at to h s t =
 -- the buckets of a graph weighed give its weights
 pub weighs-graph : {n end : ℕ} {E : List Edge} {ends lower w w′ : List ℕ} → Filed n E ends lower → end ≡ begin ends n → Weighs (take end lower) w w′ → w′ ≡ tallied false E w
 weighs-graph {n} {end} {E} {ends} {lower} {w} {w′} f e s =
-    tallied-unique false E w w′ (s .long)
+    tallied-unique (endOf false) E w w′ (s .long)
     (λ v h. s .each v h ∙ ap (λ (k : ℕ). getD w v 0 + k) (ap (λ (k : ℕ). count (λ (u : ℕ). eqb u v) (take k lower)) (e ∙ filed-begin f n (omega arith)) ∙ filed-weight f v))

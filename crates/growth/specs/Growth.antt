@@ -18,7 +18,8 @@ use Rattle.game.proofs.Conn.{Conn}
 use Rattle.game.specs.Graph.{Linked, Proper}
 use Rattle.growth.specs.Work.{workOf, cleared}
 use Rattle.bucket.specs.Ends.{tallied}
-use Rattle.bucket.specs.Filed.{begin, Consecutive, Filed}
+use Rattle.sorting.specs.Sorted.{begin}
+use Rattle.bucket.specs.Filed.{Consecutive, Filed}
 
 -- neither table has an entry for z
 pub record Root (p jump : List ℕ) (z : ℕ) : Type 0 where

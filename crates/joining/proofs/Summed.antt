@@ -8,7 +8,7 @@ use native.Mathlib.Omega.{arith}
 use native.Mathlib.Decide.{ℕ-discrete}
 use lib.ListN.{length, getD, set, length-set}
 use lib.Seq.{ext-getD, getD-set-same, getD-set-other}
-use Rattle.bucket.proofs.Tallied.{zip-length, zip-entry}
+use Rattle.sorting.proofs.Tallied.{zip-length, zip-entry}
 
 -- the entries below i are summed, the others as they were
 pub record Summed (was other table : List ℕ) (i : ℕ) : Type 0 where

@@ -172,7 +172,7 @@ module _ {p w : List ℕ} {es : List Edge} (g : Given p w es) where
 -- edges that are filed by their upper end, taken bucket by bucket
 module _ {p w bucketEnds lowers : List ℕ} {es : List Edge} (g : Given p w es) (f : Filed (length p) es bucketEnds lowers) where
   pub own-filed : Filed (length bucketEnds) es bucketEnds lowers
-  own-filed = subst (λ (n : ℕ). Filed n es bucketEnds lowers) (sym (f .long)) f
+  own-filed = subst (λ (n : ℕ). Filed n es bucketEnds lowers) (sym (f .sorted .long)) f
 
   regrouped-same : Same es (inBuckets es 0 (length bucketEnds))
   regrouped-same = same-buckets (length bucketEnds) es (own-filed .proper)

@@ -5,7 +5,8 @@ use Rattle.game.specs.Edge.{Edge}
 use Rattle.game.specs.Game.{absent}
 use Rattle.game.specs.Graph.{Proper}
 use mathlib.Core.Bool.{Bool}
-use Rattle.bucket.specs.Filed.{begin, Filed}
+use Rattle.sorting.specs.Sorted.{begin}
+use Rattle.bucket.specs.Filed.{Filed}
 use Rattle.bucket.proofs.Reading.{begin-next, filed-part}
 use Rattle.growth.specs.Growth.{Upward, Weighs, Raised, ReadUpTo, newParents, Untouched}
 use Rattle.growth.proofs.NewParents.{new-blank, untouched-none, untouched-on}
