@@ -12,12 +12,13 @@ use lib.Dec.{eqb}
 use lib.ListN.{length, getD, set, take, drop, replicate, length-set, length-drop, length-append, length-replicate, replicate-append-replicate, take-append-drop, drop-of-length-le}
 use lib.Seq.{length-take-le, getD-set-same, getD-set-other, take-suc, take-at, drop-at, set-at, take-add, take-all, drop-drop, drop-cons}
 use borrow.Author.Tests.{eq-eqb, ne-eqb}
+use Rattle.game.proofs.Tables.{count-append}
 use Rattle.game.specs.Table.{count, one-if}
 use Rattle.game.specs.Edge.{Edge}
 use Rattle.bucket.specs.Ends.{endOf, tallied}
 use Rattle.sorting.specs.Sorted.{begin}
 use Rattle.bucket.specs.Filed.{Filed}
-use Rattle.sorting.proofs.Counts.{count-append, count-le}
+use Rattle.sorting.proofs.Counts.{count-le}
 use Rattle.sorting.proofs.Tallied.{tallied-unique}
 use Rattle.bucket.proofs.Reading.{filed-begin}
 use Rattle.bucket.proofs.Weighed.{filed-weight}
