@@ -94,14 +94,23 @@ fn raise(
     at
 }
 
-// Clears the work tables, of which the table of lower ends is clear up to a place.
+// Clears the work tables, of which the table of lower ends is clear up to a place. What stands behind was not used as a rule.
 pub fn clear(ends: &mut [u32], jump: &mut [u32], lower: &mut [u32], from: usize)
     requires { ⌜ (from ≤ length (now lower)) × (take from (now lower) ≡ replicate from 0) ⌝ }
     ensures { λ _. ⌜ workOf (now (ends .exit)) (now (jump .exit)) (now (lower .exit)) ≡ cleared (workOf (now (ends .entry)) (now (jump .entry)) (now (lower .entry))) ⌝ }
 {
     table::fill(ends, 0);
     table::fill(jump, 0);
-    table::fill(&mut lower[from..], 0);
+    table::clear(&mut lower[from..]);
+}
+
+// Clears work tables that were not used. As a rule they are clear: every accepted call leaves them so.
+pub fn clear_unused(ends: &mut [u32], jump: &mut [u32], lower: &mut [u32])
+    ensures { λ _. ⌜ workOf (now (ends .exit)) (now (jump .exit)) (now (lower .exit)) ≡ cleared (workOf (now (ends .entry)) (now (jump .entry)) (now (lower .entry))) ⌝ }
+{
+    table::clear(ends);
+    table::clear(jump);
+    table::clear(lower);
 }
 
 // Grows the forest of the graph that is filed, which has the links that the table of parents holds, adds the weights that the graph

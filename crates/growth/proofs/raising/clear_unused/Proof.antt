@@ -1,0 +1,29 @@
+use Rattle.growth.proofs.Rooms.{work-cleared}
+use borrow.Author.Needs.{needs}
+use Rattle.growth.proofs.raising.clear_unused.Statement.{statement}
+use Rattle.growth.proofs.raising.clear_unused.Tie as tie
+
+clear-requires : tie.Need-clear-requires
+clear-requires c κs = search needs
+
+clear-requires-2 : tie.Need-clear-requires-2
+clear-requires-2 c κs = search needs
+
+clear-requires-3 : tie.Need-clear-requires-3
+clear-requires-3 c κs = search needs
+
+same-length : tie.Need-same-length
+same-length c = search needs
+
+same-length-2 : tie.Need-same-length-2
+same-length-2 c = search needs
+
+same-length-3 : tie.Need-same-length-3
+same-length-3 c = search needs
+
+returns : tie.Need-returns
+returns c = work-cleared _ _ _ (c .before .before .before .before .before .before .before .before .before .before .clear .ensures) (c .before .before .before .before .before .before .clear2 .ensures) (c .before .before .clear3 .ensures)
+
+pub clear-unused-spec : {M : Type 1} → statement M
+clear-unused-spec =
+    tie.close (tie.spec clear-requires clear-requires-2 clear-requires-3 same-length same-length-2 same-length-3 returns)
