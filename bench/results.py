@@ -16,7 +16,7 @@ MEASURED = {
     "divide 16": ("Dividing into 16 blocks", "divide-16", "plain C"),
     "divide 1000": ("Dividing into 1,000 blocks", "divide-1000", "plain C"),
     "report": ("Reporting on a division into 16 blocks", "report", "plain C"),
-    "index": ("Building an index of neighbours", "index", "plain C"),
+    "index": ("Building an index of neighbours", "index", "checked C"),
     "query": ("Querying an index for one rank", "query", "scan"),
     "threads": ("Growing a net in two threads", "threads", "one thread"),
 }

@@ -1,5 +1,4 @@
 // The growth of a forest by union-find with path compression, over edges by rising upper end (document 001).
-use net::Net;
 use table::wide;
 ghost use mathlib.Core.Path.{_≡_};
 ghost use mathlib.Core.Bool.{cond};
@@ -11,7 +10,7 @@ ghost use Rattle.growth.specs.Work.{workOf, cleared};
 ghost use Rattle.growth.specs.Growth.{Upward, Connects, Weighs, Light, Gathers, Blank, Raises, Growable, Grows, GrowsKept, Regrows};
 
 // Makes the root of u's tree a child of y, and every vertex on the way jump to y. A vertex jumps higher than it stands, so
-// the climb ends.
+// the climb ends, and 0 can stand for no jump.
 fn climb(u: u32, y: u32, parents: &mut [u32], jump: &mut [u32])
     requires { ⌜ (y < length (now parents)) × (length (now parents) ≤ maxVertices) × Upward (length (now parents)) (now jump) ⌝ }
     ensures { λ _. ⌜ Connects u y (now (parents .entry)) (now (jump .entry)) (now (parents .exit)) (now (jump .exit)) ⌝ }
@@ -21,7 +20,7 @@ fn climb(u: u32, y: u32, parents: &mut [u32], jump: &mut [u32])
         let at = w as usize;
         let next = jump[at];
         jump[at] = y;
-        if next == Net::ABSENT {
+        if next == 0 {
             parents[at] = y;
             return;
         }
@@ -125,7 +124,7 @@ pub fn grow(
     requires { ⌜ Growable (now ends) (now lower) (now parents) (now jump) × Light (now weights) (now lower) ⌝ }
     ensures { λ _. ⌜ Grows (now (ends .entry)) (now (lower .entry)) (now (weights .entry)) (now (parents .entry)) (now (jump .entry)) (now (parents .exit)) (now (weights .exit)) (now (ends .exit)) (now (lower .exit)) (now (jump .exit)) ⌝ }
 {
-    table::fill(jump, Net::ABSENT);
+    table::clear(jump);
     let end = raise(false, ends, lower, weights, parents, jump);
     clear(ends, jump, lower, end);
 }
@@ -141,7 +140,7 @@ pub fn grow_kept(
     requires { ⌜ Growable (now ends) (now lower) (now parents) (now jump) × Light (now weights) (now lower) ⌝ }
     ensures { λ _. ⌜ GrowsKept (now (ends .entry)) (now (lower .entry)) (now (weights .entry)) (now (parents .entry)) (now (parents .exit)) (now (weights .exit)) (now (lower .exit)) ⌝ }
 {
-    table::fill(jump, Net::ABSENT);
+    table::clear(jump);
     raise(true, ends, lower, weights, parents, jump);
 }
 
