@@ -15,6 +15,7 @@ use Rattle.game.specs.Game.{absent}
 use Rattle.game.specs.Tree.{links}
 use Rattle.game.proofs.Conn.{Conn, stay, conn-trans, conn-sym, conn-up, conn-step, conn-map}
 use Rattle.game.specs.Graph.{Linked, forth, back}
+use Rattle.game.proofs.Sound.{getD-default}
 use Rattle.game.proofs.Links.{link-set-old, link-set-new}
 use Rattle.growth.specs.Growth.{Root, Above, Known, known, passed, Child, Standing, Climbing, Climbed, Upward, newParents}
 use Rattle.growth.proofs.NewParents.{new-length, new-pass, new-link}
@@ -38,64 +39,64 @@ module _ {n y u w : ℕ} {E : List Edge} {was p jump : List ℕ} (c : Climbing n
   inside : w < length jump
   inside = omega (arith, c .standing .long-jump, below)
 
-  jumped : (z : ℕ) → z ≢ w → getD (set jump w y) z 0 ≡ getD jump z 0
-  jumped z d = getD-set-other jump w z y 0 d
+  jumped : (z : ℕ) → z ≢ w → getD (set jump w y) z absent ≡ getD jump z absent
+  jumped z d = getD-set-other jump w z y absent d
 
-  landed : getD (set jump w y) w 0 ≡ y
-  landed = getD-set-same jump w y 0 inside
+  landed : getD (set jump w y) w absent ≡ y
+  landed = getD-set-same jump w y absent inside
 
   leap-up : Above E y w y
   leap-up = record { over = low; within = le-refl y; walk = edge-on c }
 
 -- the walker has a jump: the climb goes on from there
-module _ {n y u w : ℕ} {E : List Edge} {was p jump : List ℕ} (c : Climbing n E y u w was p jump) (low : w < y) (some : getD jump w 0 ≢ 0) where
+module _ {n y u w : ℕ} {E : List Edge} {was p jump : List ℕ} (c : Climbing n E y u w was p jump) (low : w < y) (some : getD jump w absent ≢ absent) where
   here : Child E y w p jump w
   here = ⊎-elim (λ r. absurd (some (r .no-jump))) (λ k. k) (c .standing .each w (below c low))
 
   next : ℕ
-  next = getD jump w 0
+  next = getD jump w absent
 
-  on-trail : {z : ℕ} → Known p y w z (getD jump z 0) → z ≡ w → Conn (links p) (getD jump w 0) w (getD jump w 0)
-  on-trail (known k) e = subst (λ (x : ℕ). Conn (links p) (getD jump x 0) x (getD jump x 0)) e k
+  on-trail : {z : ℕ} → Known p y w z (getD jump z absent) → z ≡ w → Conn (links p) (getD jump w absent) w (getD jump w absent)
+  on-trail (known k) e = subst (λ (x : ℕ). Conn (links p) (getD jump x absent) x (getD jump x absent)) e k
   on-trail (passed q l k) e = absurd (omega arith)
 
-  next-above : w < getD jump w 0
+  next-above : w < getD jump w absent
   next-above = here .leap .over
 
-  next-below : getD jump w 0 ≤ y
+  next-below : getD jump w absent ≤ y
   next-below = here .leap .within
 
-  trail-on : Conn (links p) (getD jump w 0) w (getD jump w 0)
+  trail-on : Conn (links p) (getD jump w absent) w (getD jump w absent)
   trail-on = on-trail (here .joined) refl
 
-  moved : (z : ℕ) → z ≢ w → Child E y w p jump z → Child E y (getD jump w 0) p (set jump w y) z
+  moved : (z : ℕ) → z ≢ w → Child E y w p jump z → Child E y (getD jump w absent) p (set jump w y) z
   moved z d k = record {
     parent = k .parent;
     leap = subst (Above E y z) (sym (jumped c low z d)) (k .leap);
-    joined = subst (Known p y (getD jump w 0) z) (sym (jumped c low z d)) (on (k .joined));
+    joined = subst (Known p y (getD jump w absent) z) (sym (jumped c low z d)) (on (k .joined));
   }
     where
-      on : {q : ℕ} → Known p y w z q → Known p y (getD jump w 0) z q
+      on : {q : ℕ} → Known p y w z q → Known p y (getD jump w absent) z q
       on (known t) = known t
       on (passed e l t) = passed e (omega (arith, next-above)) (conn-trans (conn-up (le-of-lt next-above) t) trail-on)
 
-  self : Child E y (getD jump w 0) p (set jump w y) w
+  self : Child E y (getD jump w absent) p (set jump w y) w
   self = record {
     parent = here .parent;
     leap = subst (Above E y w) (sym (landed c low)) (leap-up c low);
     joined = passed (landed c low) next-above trail-on;
   }
 
-  each-on : (z : ℕ) → z < n → Root p (set jump w y) z ⊎ Child E y (getD jump w 0) p (set jump w y) z
+  each-on : (z : ℕ) → z < n → Root p (set jump w y) z ⊎ Child E y (getD jump w absent) p (set jump w y) z
   each-on z h = by-cases (ℕ-discrete z w)
-      (λ (e : z ≡ w). inr (subst (Child E y (getD jump w 0) p (set jump w y)) (sym e) self))
+      (λ (e : z ≡ w). inr (subst (Child E y (getD jump w absent) p (set jump w y)) (sym e) self))
       (λ (d : z ≢ w). ⊎-elim
       (λ r. inl (record { no-parent = r .no-parent; no-jump = jumped c low z d ∙ r .no-jump }))
       (λ k. inr (moved z d k))
       (c .standing .each z h))
 
   -- the climb goes on from where w jumped to, and w jumps to y from now on
-  climb-on : Climbing n E y u (getD jump w 0) was p (set jump w y)
+  climb-on : Climbing n E y u (getD jump w absent) was p (set jump w y)
   climb-on = record {
     standing = record { small = c .standing .small; long = c .standing .long; long-jump = length-set jump w y ∙ c .standing .long-jump; each = each-on };
     top = c .top;
@@ -107,7 +108,7 @@ module _ {n y u w : ℕ} {E : List Edge} {was p jump : List ℕ} (c : Climbing n
   }
 
 -- the walker is a root: it becomes a child of y, and the climb is done
-module _ {n y u w : ℕ} {E : List Edge} {was p jump : List ℕ} (c : Climbing n E y u w was p jump) (low : w < y) (none : getD jump w 0 ≡ 0) where
+module _ {n y u w : ℕ} {E : List Edge} {was p jump : List ℕ} (c : Climbing n E y u w was p jump) (low : w < y) (none : getD jump w absent ≡ absent) where
   root : Root p jump w
   root = ⊎-elim (λ r. r) (λ k. absurd (omega (arith, k .leap .over, k .leap .within, c .top, c .standing .small))) (c .standing .each w (below c low))
 
@@ -212,32 +213,37 @@ climb-start {n} {y} {u} {E} {p} {jump} s top low e = record {
     begun : (z : ℕ) → Child E y 0 p jump z → Child E y u p jump z
     begun z k = record { parent = k .parent; leap = k .leap; joined = on z (k .joined) }
 
--- The same as the code has its tables: the new parents stand among old ones.
+-- The same as the code has its tables: it reads by a default of 0, and the new parents stand among old ones.
 module _ (p : List ℕ) {n y u w : ℕ} {E : List Edge} {was jump : List ℕ} (c : Climbing n E y u w was (newParents p jump) jump) (low : w < y) where
-  high-real : y ≢ 0
-  high-real = omega arith
+  read : getD jump w 0 ≡ getD jump w absent
+  read = getD-default jump w 0 absent (inside c low)
 
-  pub climb-jump : getD jump w 0 ≢ 0 → Climbing n E y u (getD jump w 0) was (newParents p (set jump w y)) (set jump w y)
-  climb-jump some = rw (new-pass p jump (inside c low) high-real some) (climb-on c low some)
+  high-real : y ≢ absent
+  high-real = omega (arith, c .top, c .standing .small)
 
-  pub climb-root : getD jump w 0 ≡ 0 → Climbed n E y u was (newParents (set p w y) (set jump w y)) (set jump w y)
+  pub climb-jump : getD jump w 0 ≢ absent → Climbing n E y u (getD jump w 0) was (newParents p (set jump w y)) (set jump w y)
+  climb-jump some =
+      rw (new-pass p jump (inside c low) high-real (λ e. some (read ∙ e)))
+      (subst (λ (x : ℕ). Climbing n E y u x was (newParents p jump) (set jump w y)) (sym read) (climb-on c low (λ e. some (read ∙ e))))
+
+  pub climb-root : getD jump w 0 ≡ absent → Climbed n E y u was (newParents (set p w y) (set jump w y)) (set jump w y)
   climb-root none =
       rw (new-link p jump (inside c low) high-real (omega (arith, below c low, c .standing .long, new-length p jump)))
-      (climb-link c low none)
+      (climb-link c low (sym read ∙ none))
 
 -- a jump to y, higher than where it starts, leaves the table of jumps upward
 pub upward-set : {n : ℕ} {jump : List ℕ} (w y : ℕ) → w < y → Upward n jump → Upward n (set jump w y)
 upward-set {n} {jump} w y low a = record { long = length-set jump w y ∙ a .long; up = up }
   where
-    up : (z : ℕ) → z < n → (getD (set jump w y) z 0 ≡ 0) ⊎ (z < getD (set jump w y) z 0)
+    up : (z : ℕ) → z < n → (getD (set jump w y) z 0 ≡ absent) ⊎ (z < getD (set jump w y) z 0)
     up z h = by-cases (ℕ-discrete z w)
         (λ (e : z ≡ w). inr (omega (arith, e, getD-set-same jump w y 0 (omega (arith, a .long, h, e)), ap (λ (x : ℕ). getD (set jump w y) x 0) e)))
-        (λ (d : z ≢ w). subst (λ (q : ℕ). (q ≡ 0) ⊎ (z < q)) (sym (getD-set-other jump w z y 0 d)) (a .up z h))
+        (λ (d : z ≢ w). subst (λ (q : ℕ). (q ≡ absent) ⊎ (z < q)) (sym (getD-set-other jump w z y 0 d)) (a .up z h))
 
 -- the entry that a climb goes on from is higher
-pub upward-next : {n : ℕ} {jump : List ℕ} (w : ℕ) → Upward n jump → w < n → getD jump w 0 ≢ 0 → w < getD jump w 0
+pub upward-next : {n : ℕ} {jump : List ℕ} (w : ℕ) → Upward n jump → w < n → getD jump w 0 ≢ absent → w < getD jump w 0
 upward-next w a h d = ⊎-elim (λ e. absurd (d e)) (λ l. l) (a .up w h)
 
 -- a table without jumps
-pub upward-blank : (n : ℕ) → Upward n (replicate n 0)
-upward-blank n = record { long = length-replicate n 0; up = λ z h. inl (getD-replicate {A = ℕ} n z 0 0 h) }
+pub upward-blank : (n : ℕ) → Upward n (replicate n absent)
+upward-blank n = record { long = length-replicate n absent; up = λ z h. inl (getD-replicate n z absent 0 h) }

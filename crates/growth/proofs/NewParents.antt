@@ -28,48 +28,48 @@ unfolding newParents
 new-length p jump = tabulate-length (length p) _
 
 -- a vertex without a jump has no new parent
-pub new-none : (p jump : List ℕ) (z : ℕ) → z < length p → getD jump z 0 ≡ 0 → getD (newParents p jump) z absent ≡ absent
+pub new-none : (p jump : List ℕ) (z : ℕ) → z < length p → getD jump z absent ≡ absent → getD (newParents p jump) z absent ≡ absent
 unfolding newParents
-new-none p jump z h e = tabulate-entry (length p) _ z absent h ∙ ap (λ (b : Bool). cond b absent (getD p z absent)) (eq-eqb (getD jump z 0) 0 e)
+new-none p jump z h e = tabulate-entry (length p) _ z absent h ∙ ap (λ (b : Bool). cond b absent (getD p z absent)) (eq-eqb (getD jump z absent) absent e)
 
 -- one with a jump has the parent that the table holds
-pub new-some : (p jump : List ℕ) (z : ℕ) → z < length p → getD jump z 0 ≢ 0 → getD (newParents p jump) z absent ≡ getD p z absent
+pub new-some : (p jump : List ℕ) (z : ℕ) → z < length p → getD jump z absent ≢ absent → getD (newParents p jump) z absent ≡ getD p z absent
 unfolding newParents
-new-some p jump z h d = tabulate-entry (length p) _ z absent h ∙ ap (λ (b : Bool). cond b absent (getD p z absent)) (ne-eqb (getD jump z 0) 0 d)
+new-some p jump z h d = tabulate-entry (length p) _ z absent h ∙ ap (λ (b : Bool). cond b absent (getD p z absent)) (ne-eqb (getD jump z absent) absent d)
 
-same-new : (p jump q : List ℕ) → length q ≡ length p → ((z : ℕ) → z < length p → getD jump z 0 ≡ 0 → getD q z absent ≡ absent)
-    → ((z : ℕ) → z < length p → getD jump z 0 ≢ 0 → getD q z absent ≡ getD p z absent) → newParents p jump ≡ q
+same-new : (p jump q : List ℕ) → length q ≡ length p → ((z : ℕ) → z < length p → getD jump z absent ≡ absent → getD q z absent ≡ absent)
+    → ((z : ℕ) → z < length p → getD jump z absent ≢ absent → getD q z absent ≡ getD p z absent) → newParents p jump ≡ q
 same-new p jump q long f g =
     ext-getD absent (newParents p jump) q (new-length p jump ∙ sym long)
     (λ z h.
     let l : z < length p = omega (arith, new-length p jump) in
-    by-cases (ℕ-discrete (getD jump z 0) 0)
-    (λ (e : getD jump z 0 ≡ 0). new-none p jump z l e ∙ sym (f z l e))
-    (λ (d : getD jump z 0 ≢ 0). new-some p jump z l d ∙ sym (g z l d)))
+    by-cases (ℕ-discrete (getD jump z absent) absent)
+    (λ (e : getD jump z absent ≡ absent). new-none p jump z l e ∙ sym (f z l e))
+    (λ (d : getD jump z absent ≢ absent). new-some p jump z l d ∙ sym (g z l d)))
 
 -- at first there is none
-pub new-blank : (p : List ℕ) {n : ℕ} {jump : List ℕ} → length p ≡ n → jump ≡ replicate n 0 → newParents p jump ≡ replicate n absent
+pub new-blank : (p : List ℕ) {n : ℕ} {jump : List ℕ} → length p ≡ n → jump ≡ replicate n absent → newParents p jump ≡ replicate n absent
 new-blank p {n} {jump} e b =
     same-new p jump (replicate n absent) (length-replicate n absent ∙ sym e)
     (λ z h q. getD-replicate n z absent absent (omega arith))
-    (λ z h d. absurd (d (ap (λ (t : List ℕ). getD t z 0) b ∙ getD-replicate {A = ℕ} n z 0 0 (omega arith))))
+    (λ z h d. absurd (d (ap (λ (t : List ℕ). getD t z absent) b ∙ getD-replicate n z absent absent (omega arith))))
 
-module _ (p jump : List ℕ) {w y : ℕ} (inside : w < length jump) (real : y ≢ 0) where
-  landed : getD (set jump w y) w 0 ≡ y
-  landed = getD-set-same jump w y 0 inside
+module _ (p jump : List ℕ) {w y : ℕ} (inside : w < length jump) (real : y ≢ absent) where
+  landed : getD (set jump w y) w absent ≡ y
+  landed = getD-set-same jump w y absent inside
 
-  jumped : (z : ℕ) → z ≢ w → getD (set jump w y) z 0 ≡ getD jump z 0
-  jumped z d = getD-set-other jump w z y 0 d
+  jumped : (z : ℕ) → z ≢ w → getD (set jump w y) z absent ≡ getD jump z absent
+  jumped z d = getD-set-other jump w z y absent d
 
   -- a jump that is made longer
-  pub new-pass : getD jump w 0 ≢ 0 → newParents p (set jump w y) ≡ newParents p jump
+  pub new-pass : getD jump w absent ≢ absent → newParents p (set jump w y) ≡ newParents p jump
   new-pass some =
       same-new p (set jump w y) (newParents p jump) (new-length p jump)
       (λ z h e. by-cases (ℕ-discrete z w)
-      (λ (q : z ≡ w). absurd (real (sym landed ∙ subst (λ (x : ℕ). getD (set jump w y) x 0 ≡ 0) q e)))
+      (λ (q : z ≡ w). absurd (real (sym landed ∙ subst (λ (x : ℕ). getD (set jump w y) x absent ≡ absent) q e)))
       (λ (d : z ≢ w). new-none p jump z h (sym (jumped z d) ∙ e)))
       (λ z h f. by-cases (ℕ-discrete z w)
-      (λ (q : z ≡ w). new-some p jump z h (λ e. some (subst (λ (x : ℕ). getD jump x 0 ≡ 0) q e)))
+      (λ (q : z ≡ w). new-some p jump z h (λ e. some (subst (λ (x : ℕ). getD jump x absent ≡ absent) q e)))
       (λ (d : z ≢ w). new-some p jump z h (λ e. f (jumped z d ∙ e))))
 
   -- a root that gets a parent
@@ -77,7 +77,7 @@ module _ (p jump : List ℕ) {w y : ℕ} (inside : w < length jump) (real : y �
   new-link h =
       same-new (set p w y) (set jump w y) (set (newParents p jump) w y) (length-set (newParents p jump) w y ∙ new-length p jump ∙ sym (length-set p w y))
       (λ z l e. by-cases (ℕ-discrete z w)
-      (λ (q : z ≡ w). absurd (real (sym landed ∙ subst (λ (x : ℕ). getD (set jump w y) x 0 ≡ 0) q e)))
+      (λ (q : z ≡ w). absurd (real (sym landed ∙ subst (λ (x : ℕ). getD (set jump w y) x absent ≡ absent) q e)))
       (λ (d : z ≢ w). getD-set-other (newParents p jump) w z y absent d ∙ new-none p jump z (omega (arith, length-set p w y)) (sym (jumped z d) ∙ e)))
       (λ z l f. by-cases (ℕ-discrete z w)
       (λ (q : z ≡ w). subst (λ (x : ℕ). getD (set (newParents p jump) w y) x absent ≡ getD (set p w y) x absent) (sym q)
@@ -88,14 +88,14 @@ module _ (p jump : List ℕ) {w y : ℕ} (inside : w < length jump) (real : y �
   pub untouched-pass : Untouched p jump p (set jump w y)
   untouched-pass = record {
     each = λ z e. by-cases (ℕ-discrete z w)
-        (λ (q : z ≡ w). absurd (real (sym landed ∙ subst (λ (x : ℕ). getD (set jump w y) x 0 ≡ 0) q e)))
+        (λ (q : z ≡ w). absurd (real (sym landed ∙ subst (λ (x : ℕ). getD (set jump w y) x absent ≡ absent) q e)))
         (λ (d : z ≢ w). (sym (jumped z d) ∙ e, refl));
   }
 
   pub untouched-link : Untouched p jump (set p w y) (set jump w y)
   untouched-link = record {
     each = λ z e. by-cases (ℕ-discrete z w)
-        (λ (q : z ≡ w). absurd (real (sym landed ∙ subst (λ (x : ℕ). getD (set jump w y) x 0 ≡ 0) q e)))
+        (λ (q : z ≡ w). absurd (real (sym landed ∙ subst (λ (x : ℕ). getD (set jump w y) x absent ≡ absent) q e)))
         (λ (d : z ≢ w). (sym (jumped z d) ∙ e, getD-set-other p w z y absent d));
   }
 
@@ -128,7 +128,7 @@ pub new-whole : {n : ℕ} {E : List Edge} {p jump p′ jump′ : List ℕ} → n
 new-whole {n} {E} {p} {jump} {p′} {jump′} short proper long long′ i u f =
     sym (same-new p′ jump′ p′ refl old (λ z h d. refl)) ∙ f
   where
-    old : (z : ℕ) → z < length p′ → getD jump′ z 0 ≡ 0 → getD p′ z absent ≡ absent
+    old : (z : ℕ) → z < length p′ → getD jump′ z absent ≡ absent → getD p′ z absent ≡ absent
     old z h e = by-cases (ℕ-discrete (getD p′ z absent) absent) (λ (q : getD p′ z absent ≡ absent). q)
         (λ (d : getD p′ z absent ≢ absent).
         let (j, k) = u .each z e in

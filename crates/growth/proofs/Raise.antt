@@ -76,13 +76,13 @@ standing-up {n} {y} {E} {p} {jump} s = record { small = s .small; long = s .long
     child k = record { parent = above (k .parent); leap = above (k .leap); joined = joined (k .joined) }
 
 -- nothing is raised: every vertex is a root
-pub raise-start : (n : ℕ) (E : List Edge) → n ≤ absent → Raised n E 0 (replicate n absent) (replicate n 0)
+pub raise-start : (n : ℕ) (E : List Edge) → n ≤ absent → Raised n E 0 (replicate n absent) (replicate n absent)
 raise-start n E small = record {
   standing = record {
     small = small;
     long = length-replicate n absent;
-    long-jump = length-replicate n 0;
-    each = λ z h. inl (record { no-parent = getD-replicate n z absent absent h; no-jump = getD-replicate {A = ℕ} n z 0 0 h });
+    long-jump = length-replicate n absent;
+    each = λ z h. inl (record { no-parent = getD-replicate n z absent absent h; no-jump = getD-replicate n z absent absent h });
   };
   covered = λ a b l low none. absurd (omega arith);
 }

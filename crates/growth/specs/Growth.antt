@@ -1,8 +1,7 @@
 -- Where the growth of a forest stands: what the private functions below promise each other. No public contract cites this.
 --
 -- The graph E is taken in edge by edge, by rising upper end y. Two tables: p holds the forest's parents so far, jump holds for each
--- vertex that has a parent a higher one, found by climbing, from which the next climb goes on (path compression), and 0 for others: no
--- vertex stands below 0.
+-- vertex that has a parent a higher one, found by climbing, from which the next climb goes on (path compression).
 -- Assumes nothing.
 use mathlib.Core.Path.{_≡_}
 use mathlib.Core.Logic.{_⊎_}
@@ -25,7 +24,7 @@ use Rattle.bucket.specs.Filed.{Consecutive, Filed}
 -- neither table has an entry for z
 pub record Root (p jump : List ℕ) (z : ℕ) : Type 0 where
   pub no-parent : getD p z absent ≡ absent
-  pub no-jump : getD jump z 0 ≡ 0
+  pub no-jump : getD jump z absent ≡ absent
 
 -- q stands above z, not above y, and the graph joins the two at q's height
 pub record Above (E : List Edge) (y z q : ℕ) : Type 0 where
@@ -41,8 +40,8 @@ pub data Known (p : List ℕ) (y w z q : ℕ) : Type 0 where
 -- z has a parent and a jump
 pub record Child (E : List Edge) (y w : ℕ) (p jump : List ℕ) (z : ℕ) : Type 0 where
   pub parent : Above E y z (getD p z absent)
-  pub leap : Above E y z (getD jump z 0)
-  pub joined : Known p y w z (getD jump z 0)
+  pub leap : Above E y z (getD jump z absent)
+  pub joined : Known p y w z (getD jump z absent)
 
 -- the two tables while y's edges are taken in; w is where a climb stands, 0 when there is none
 pub record Standing (n : ℕ) (E : List Edge) (y w : ℕ) (p jump : List ℕ) : Type 0 where
@@ -74,16 +73,16 @@ pub record Climbed (n : ℕ) (E : List Edge) (y u : ℕ) (was p jump : List ℕ)
 -- a table of n jumps that lead higher, if anywhere: so a climb keeps within the tables and ends
 pub record Upward (n : ℕ) (jump : List ℕ) : Type 0 where
   pub long : length jump ≡ n
-  pub up : (z : ℕ) → z < n → (getD jump z 0 ≡ 0) ⊎ (z < getD jump z 0)
+  pub up : (z : ℕ) → z < n → (getD jump z 0 ≡ absent) ⊎ (z < getD jump z 0)
 
 -- The parents that growing has written: those of the vertices that have a jump. What the table holds for others is left from before, so
 -- that a vertex which gets its parent can be told from what it had.
 unfoldable pub newParents : (p jump : List ℕ) → List ℕ
-newParents p jump = tabulate (length p) (λ (z : ℕ). cond (eqb (getD jump z 0) 0) absent (getD p z absent))
+newParents p jump = tabulate (length p) (λ (z : ℕ). cond (eqb (getD jump z absent) absent) absent (getD p z absent))
 
 -- vertices that have no jump had none, and are as they were
 pub record Untouched (p jump p′ jump′ : List ℕ) : Type 0 where
-  pub each : (z : ℕ) → getD jump′ z 0 ≡ 0 → (getD jump z 0 ≡ 0) × (getD p′ z absent ≡ getD p z absent)
+  pub each : (z : ℕ) → getD jump′ z absent ≡ absent → (getD jump z absent ≡ absent) × (getD p′ z absent ≡ getD p z absent)
 
 -- what a climb from u for y promises, for whatever graph the tables stand for
 pub record Connects (u y : ℕ) (p jump p′ jump′ : List ℕ) : Type 0 where
@@ -139,7 +138,7 @@ pub record Light (weights lower : List ℕ) : Type 0 where
 -- the tables before raising: no vertex has a jump
 pub record Blank (ends lower weights p jump : List ℕ) : Type 0 where
   pub long : length p ≡ length ends
-  pub blank-jump : jump ≡ replicate (length ends) 0
+  pub blank-jump : jump ≡ replicate (length ends) absent
   pub buckets : Consecutive ends lower
   pub light : Light weights lower
 

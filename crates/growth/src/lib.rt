@@ -3,7 +3,6 @@ mod raising;
 mod work;
 
 pub use raising::clear;
-pub use raising::clear_unused;
 pub use raising::grow;
 pub use raising::grow_kept;
 pub use raising::regrow;

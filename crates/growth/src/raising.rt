@@ -1,4 +1,5 @@
 // The growth of a forest by union-find with path compression, over edges by rising upper end (document 001).
+use net::Net;
 use table::wide;
 ghost use mathlib.Core.Path.{_≡_};
 ghost use mathlib.Core.Bool.{cond};
@@ -10,7 +11,7 @@ ghost use Rattle.growth.specs.Work.{workOf, cleared};
 ghost use Rattle.growth.specs.Growth.{Upward, Connects, Weighs, Light, Gathers, Blank, Raises, Growable, Grows, GrowsKept, Regrows};
 
 // Makes the root of u's tree a child of y, and every vertex on the way jump to y. A vertex jumps higher than it stands, so
-// the climb ends, and 0 can stand for no jump.
+// the climb ends.
 fn climb(u: u32, y: u32, parents: &mut [u32], jump: &mut [u32])
     requires { ⌜ (y < length (now parents)) × (length (now parents) ≤ maxVertices) × Upward (length (now parents)) (now jump) ⌝ }
     ensures { λ _. ⌜ Connects u y (now (parents .entry)) (now (jump .entry)) (now (parents .exit)) (now (jump .exit)) ⌝ }
@@ -20,7 +21,7 @@ fn climb(u: u32, y: u32, parents: &mut [u32], jump: &mut [u32])
         let at = w as usize;
         let next = jump[at];
         jump[at] = y;
-        if next == 0 {
+        if next == Net::ABSENT {
             parents[at] = y;
             return;
         }
@@ -93,23 +94,14 @@ fn raise(
     at
 }
 
-// Clears the work tables, of which the table of lower ends is clear up to a place. What stands behind was not used as a rule.
+// Clears the work tables, of which the table of lower ends is clear up to a place.
 pub fn clear(ends: &mut [u32], jump: &mut [u32], lower: &mut [u32], from: usize)
     requires { ⌜ (from ≤ length (now lower)) × (take from (now lower) ≡ replicate from 0) ⌝ }
     ensures { λ _. ⌜ workOf (now (ends .exit)) (now (jump .exit)) (now (lower .exit)) ≡ cleared (workOf (now (ends .entry)) (now (jump .entry)) (now (lower .entry))) ⌝ }
 {
     table::fill(ends, 0);
     table::fill(jump, 0);
-    table::clear(&mut lower[from..]);
-}
-
-// Clears work tables that were not used. As a rule they are clear: every accepted call leaves them so.
-pub fn clear_unused(ends: &mut [u32], jump: &mut [u32], lower: &mut [u32])
-    ensures { λ _. ⌜ workOf (now (ends .exit)) (now (jump .exit)) (now (lower .exit)) ≡ cleared (workOf (now (ends .entry)) (now (jump .entry)) (now (lower .entry))) ⌝ }
-{
-    table::clear(ends);
-    table::clear(jump);
-    table::clear(lower);
+    table::fill(&mut lower[from..], 0);
 }
 
 // Grows the forest of the graph that is filed, which has the links that the table of parents holds, adds the weights that the graph
@@ -124,7 +116,7 @@ pub fn grow(
     requires { ⌜ Growable (now ends) (now lower) (now parents) (now jump) × Light (now weights) (now lower) ⌝ }
     ensures { λ _. ⌜ Grows (now (ends .entry)) (now (lower .entry)) (now (weights .entry)) (now (parents .entry)) (now (jump .entry)) (now (parents .exit)) (now (weights .exit)) (now (ends .exit)) (now (lower .exit)) (now (jump .exit)) ⌝ }
 {
-    table::clear(jump);
+    table::fill(jump, Net::ABSENT);
     let end = raise(false, ends, lower, weights, parents, jump);
     clear(ends, jump, lower, end);
 }
@@ -140,7 +132,7 @@ pub fn grow_kept(
     requires { ⌜ Growable (now ends) (now lower) (now parents) (now jump) × Light (now weights) (now lower) ⌝ }
     ensures { λ _. ⌜ GrowsKept (now (ends .entry)) (now (lower .entry)) (now (weights .entry)) (now (parents .entry)) (now (parents .exit)) (now (weights .exit)) (now (lower .exit)) ⌝ }
 {
-    table::clear(jump);
+    table::fill(jump, Net::ABSENT);
     raise(true, ends, lower, weights, parents, jump);
 }
 

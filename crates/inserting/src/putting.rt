@@ -109,7 +109,7 @@ pub fn insert(
     let most = budget(parents.len());
     let at = put_some(parents, edges, most);
     if edges.len() <= at + 1 {
-        growth::clear_unused(ends, jump, lower);
+        growth::clear(ends, jump, lower, 0);
         return;
     }
     bucket::file_edges(parents, &edges[at..], ends, lower);

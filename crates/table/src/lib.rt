@@ -50,15 +50,6 @@ pub fn is_all(table: &[u32], x: u32) -> bool
     all
 }
 
-// Sets every entry of a table to 0. One that is clear already is only read, which is quicker than writing it.
-pub fn clear(table: &mut [u32])
-    ensures { λ _. ⌜ now (table .exit) ≡ replicate (length (now (table .entry))) 0 ⌝ }
-{
-    if !is_all(table, 0) {
-        fill(table, 0);
-    }
-}
-
 // Copies a table.
 pub fn copy(from: &[u32], to: &mut [u32])
     requires { ⌜ length (now to) ≡ length (now from) ⌝ }

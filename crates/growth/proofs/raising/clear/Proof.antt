@@ -10,20 +10,20 @@ fill-requires c κs = search needs
 fill-requires-2 : tie.Need-fill-requires-2
 fill-requires-2 c κs = search needs
 
-mul-clear : tie.Need-mul-clear
-mul-clear c = search needs
+mul-fill : tie.Need-mul-fill
+mul-fill c = search needs
 
-sub-clear : tie.Need-sub-clear
-sub-clear c = search needs
+sub-fill : tie.Need-sub-fill
+sub-fill c = search needs
 
-part-clear-start : tie.Need-part-clear-start
-part-clear-start c = search needs
+part-fill-start : tie.Need-part-fill-start
+part-fill-start c = search needs
 
-part-clear-end : tie.Need-part-clear-end
-part-clear-end c = search needs
+part-fill-end : tie.Need-part-fill-end
+part-fill-end c = search needs
 
-clear-requires : tie.Need-clear-requires
-clear-requires c κs = search needs
+fill-requires-3 : tie.Need-fill-requires-3
+fill-requires-3 c κs = search needs
 
 same-length : tie.Need-same-length
 same-length c = search needs
@@ -36,7 +36,7 @@ same-length-3 c = search needs
 
 returns : tie.Need-returns
 returns c =
-    work-cleared _ _ _ (c .before .before .before .before .before .before .before .before .before .before .fill .ensures) (c .before .before .before .before .before .before .fill2 .ensures) (cleared-out _ _ (c .before .before .before .before .before .before .before .before .before .before .before .before .before .before .before .pre .0) (c .before .before .before .before .before .before .before .before .before .before .before .before .before .before .before .pre .1) (c .before .before .clear .ensures))
+    work-cleared _ _ _ (c .before .before .before .before .before .before .before .before .before .before .fill .ensures) (c .before .before .before .before .before .before .fill2 .ensures) (cleared-out _ _ (c .before .before .before .before .before .before .before .before .before .before .before .before .before .before .before .pre .0) (c .before .before .before .before .before .before .before .before .before .before .before .before .before .before .before .pre .1) (c .before .before .fill3 .ensures))
 
 pub clear-spec : {M : Type 1} → statement M
 clear-spec =
@@ -44,11 +44,11 @@ clear-spec =
     (tie.spec
     fill-requires
     fill-requires-2
-    mul-clear
-    sub-clear
-    part-clear-start
-    part-clear-end
-    clear-requires
+    mul-fill
+    sub-fill
+    part-fill-start
+    part-fill-end
+    fill-requires-3
     same-length
     same-length-2
     same-length-3

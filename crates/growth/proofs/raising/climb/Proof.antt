@@ -1,10 +1,12 @@
 use native.Mathlib.Omega.{arith}
 use mathlib.Core.Path.{_≡_, refl}
+use mathlib.Core.Logic.{_≢_}
 use Prim.Native.Nat.{ℕ, _-_, _<_}
 use mathlib.Core.List.{List}
 use lib.ListN.{length, length-set}
 use Rattle.game.specs.Edge.{Edge}
 use Rattle.game.proofs.Conn.{Conn}
+use Rattle.game.specs.Game.{absent}
 use Rattle.growth.specs.Growth.{Upward, Standing, Climbing, newParents, Untouched}
 use Rattle.growth.proofs.NewParents.{untouched-none, untouched-pass, untouched-link, untouched-on}
 use Rattle.growth.proofs.Climb.{climb-start, climb-jump, climb-root, climb-done, upward-set, upward-next}
@@ -16,6 +18,7 @@ use Rattle.growth.proofs.raising.climb.Tie as tie
 record Turn (u y : ℕ) (was jumps p jump : List ℕ) (w : ℕ) : Type 0 where
   same : length p ≡ length was
   top : y < length was
+  real : y ≢ absent
   upward : Upward (length was) jump
   untouched : Untouched was jumps p jump
   climbing : (E : List Edge) → Standing (length was) E y 0 (newParents was jumps) jumps → u < y → Conn E y u y → Climbing (length was) E y u w (newParents was jumps) (newParents p jump) jump
@@ -30,6 +33,7 @@ loop-holds : tie.Need-loop-holds Inv-loop μ-loop
 loop-holds c = record {
   same = refl;
   top = c .pre .0;
+  real = omega (arith, c .pre .0, c .pre .1);
   upward = c .pre .2;
   untouched = untouched-none _ _;
   climbing = λ E s l e. climb-start s (c .pre .0) l e;
@@ -65,7 +69,7 @@ same-length-2 c = simp length-set (omega (arith, c .before .before .before .befo
 returns : tie.Need-returns Inv-loop μ-loop
 returns c = record {
   upward = upward-set _ _ (c .before .before .loop-test .taken) (c .before .before .before .loop .inv .upward);
-  untouched = untouched-on (c .before .before .before .loop .inv .untouched) (untouched-link _ _ (omega (arith, c .before .before .loop-test .taken, c .before .before .before .loop .inv .top, c .before .before .before .loop .inv .upward .long)) (omega (arith, c .before .before .loop-test .taken)));
+  untouched = untouched-on (c .before .before .before .loop .inv .untouched) (untouched-link _ _ (omega (arith, c .before .before .loop-test .taken, c .before .before .before .loop .inv .top, c .before .before .before .loop .inv .upward .long)) (c .before .before .before .loop .inv .real));
   climbed = λ E s l e. climb-root _ (c .before .before .before .loop .inv .climbing E s l e) (c .before .before .loop-test .taken) (c .if1 .taken);
 }
 
@@ -77,7 +81,8 @@ loop-again : tie.Need-loop-again Inv-loop μ-loop
 loop-again c = record {
   same = c .before .before .before .loop .inv .same;
   top = c .before .before .before .loop .inv .top;
-  untouched = untouched-on (c .before .before .before .loop .inv .untouched) (untouched-pass _ _ (omega (arith, c .before .before .loop-test .taken, c .before .before .before .loop .inv .top, c .before .before .before .loop .inv .upward .long)) (omega (arith, c .before .before .loop-test .taken)));
+  real = c .before .before .before .loop .inv .real;
+  untouched = untouched-on (c .before .before .before .loop .inv .untouched) (untouched-pass _ _ (omega (arith, c .before .before .loop-test .taken, c .before .before .before .loop .inv .top, c .before .before .before .loop .inv .upward .long)) (c .before .before .before .loop .inv .real));
   upward = upward-set _ _ (c .before .before .loop-test .taken) (c .before .before .before .loop .inv .upward);
   climbing = λ E s l e. climb-jump _ (c .before .before .before .loop .inv .climbing E s l e) (c .before .before .loop-test .taken) (c .if1 .left);
 }

@@ -1,6 +1,7 @@
 use mathlib.Core.Path.{refl, ap, _∙_}
 use Prim.Native.Nat.{ℕ}
 use lib.ListN.{replicate}
+use Rattle.game.specs.Game.{absent}
 use Rattle.growth.proofs.NewParents.{new-whole}
 use Rattle.growth.proofs.Rooms.{same-room}
 use Rattle.growth.proofs.Weigh.{read-cleared, weighs-graph}
@@ -9,21 +10,21 @@ use borrow.Author.Needs.{needs}
 use Rattle.growth.proofs.raising.grow.Statement.{statement}
 use Rattle.growth.proofs.raising.grow.Tie as tie
 
-clear-requires : tie.Need-clear-requires
-clear-requires c κs = search needs
+fill-requires : tie.Need-fill-requires
+fill-requires c κs = search needs
 
 raise-requires : tie.Need-raise-requires
 raise-requires c κs =
     let g = c .before .before .before .before .before .before .before .before .before .before .before .before .before .before .pre .0 in
     record {
       long = g .long;
-      blank-jump = c .before .before .before .before .before .before .before .clear .ensures ∙ ap (λ (n : ℕ). replicate n 0) (g .long-jump);
+      blank-jump = c .before .before .before .before .before .before .before .fill .ensures ∙ ap (λ (n : ℕ). replicate n absent) (g .long-jump);
       buckets = g .buckets;
       light = c .before .before .before .before .before .before .before .before .before .before .before .before .before .before .pre .1;
     }
 
-clear-requires-2 : tie.Need-clear-requires-2
-clear-requires-2 c κs =
+clear-requires : tie.Need-clear-requires
+clear-requires c κs =
     let r = c .before .before .before .before .before .before .before .before .before .before .before .raise .ensures .leaves in
     (omega (arith, r .inside, r .long), read-cleared r)
 
@@ -48,16 +49,16 @@ returns c =
     let g = c .before .before .before .before .before .before .before .before .before .before .before .before .before .before .before .before .before .before .before .before .before .before .before .before .before .before .before .before .before .before .before .before .before .pre .0 in
     record {
       grown = record { parents = λ E k f i. new-whole (omega (arith, g .buckets .few)) k (g .long) (c .before .before .before .before .before .before .before .before .before .before .before .before .before .before .before .before .before .before .raise .kept .1 .1 .1 .1 .0 ∙ g .long) i (r .untouched) (r .raised E k f); weighed = λ E f. weighs-graph f (r .last) (r .weighed) };
-      clear = c .before .before .before .before .before .before .clear2 .ensures ∙ same-room _ _ _ _ _ _ refl (c .before .before .before .before .before .before .before .before .before .before .before .before .before .before .before .before .before .before .raise .kept .1 .1 .1 .1 .1 .0 ∙ c .before .before .before .before .before .before .before .before .before .before .before .before .before .before .before .before .before .before .before .before .before .before .before .before .before .before .clear .kept .0) (c .before .before .before .before .before .before .before .before .before .before .before .before .before .before .before .before .before .before .raise .kept .1 .1 .0);
+      clear = c .before .before .before .before .before .before .clear .ensures ∙ same-room _ _ _ _ _ _ refl (c .before .before .before .before .before .before .before .before .before .before .before .before .before .before .before .before .before .before .raise .kept .1 .1 .1 .1 .1 .0 ∙ c .before .before .before .before .before .before .before .before .before .before .before .before .before .before .before .before .before .before .before .before .before .before .before .before .before .before .fill .kept .0) (c .before .before .before .before .before .before .before .before .before .before .before .before .before .before .before .before .before .before .raise .kept .1 .1 .0);
     }
 
 pub grow-spec : {M : Type 1} → statement M
 grow-spec =
     tie.close
     (tie.spec
-    clear-requires
+    fill-requires
     raise-requires
-    clear-requires-2
+    clear-requires
     same-length
     same-length-2
     same-length-3

@@ -1,6 +1,7 @@
 use mathlib.Core.Path.{ap, _∙_}
 use Prim.Native.Nat.{ℕ}
 use lib.ListN.{replicate}
+use Rattle.game.specs.Game.{absent}
 use native.Mathlib.Omega.{arith}
 use Rattle.growth.proofs.NewParents.{new-whole}
 use Rattle.growth.proofs.Weigh.{read-kept, weighs-graph}
@@ -8,15 +9,15 @@ use borrow.Author.Needs.{needs}
 use Rattle.growth.proofs.raising.grow_kept.Statement.{statement}
 use Rattle.growth.proofs.raising.grow_kept.Tie as tie
 
-clear-requires : tie.Need-clear-requires
-clear-requires c κs = search needs
+fill-requires : tie.Need-fill-requires
+fill-requires c κs = search needs
 
 raise-requires : tie.Need-raise-requires
 raise-requires c κs =
     let g = c .before .before .before .before .before .before .before .before .before .before .before .before .before .pre .0 in
     record {
       long = g .long;
-      blank-jump = c .before .before .before .before .before .before .clear .ensures ∙ ap (λ (n : ℕ). replicate n 0) (g .long-jump);
+      blank-jump = c .before .before .before .before .before .before .fill .ensures ∙ ap (λ (n : ℕ). replicate n absent) (g .long-jump);
       buckets = g .buckets;
       light = c .before .before .before .before .before .before .before .before .before .before .before .before .before .pre .1;
     }
@@ -49,7 +50,7 @@ pub grow-kept-spec : {M : Type 1} → statement M
 grow-kept-spec =
     tie.close
     (tie.spec
-    clear-requires
+    fill-requires
     raise-requires
     same-length
     same-length-2

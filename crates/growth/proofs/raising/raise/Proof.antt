@@ -2,6 +2,7 @@ use mathlib.Core.Path.{refl, sym, ap, subst, subst₂, _∙_, _≡_}
 use mathlib.Core.List.{List}
 use lib.ListN.{take, length-replicate, length-take, length}
 use Rattle.game.specs.Edge.{Edge}
+use Rattle.game.specs.Game.{absent}
 use Rattle.game.specs.Graph.{Proper}
 use mathlib.Core.Bool.{Bool}
 use Rattle.sorting.specs.Sorted.{begin}
@@ -143,7 +144,7 @@ same-length-3 : tie.Need-same-length-3 Inv-loop μ-loop
 same-length-3 c = c .before .loop .inv .same ∙ sym (c .before .before .before .before .before .before .before .pre .long)
 
 same-length-4 : tie.Need-same-length-4 Inv-loop μ-loop
-same-length-4 c = c .before .loop .inv .upward .long ∙ sym (ap length (c .before .before .before .before .before .before .before .pre .blank-jump) ∙ length-replicate _ 0)
+same-length-4 c = c .before .loop .inv .upward .long ∙ sym (ap length (c .before .before .before .before .before .before .before .pre .blank-jump) ∙ length-replicate _ absent)
 
 returns : tie.Need-returns Inv-loop μ-loop
 returns c =

@@ -16,8 +16,8 @@ put-some-requires c κs = search needs
 add-if1 : tie.Need-add-if1
 add-if1 c = search needs
 
-clear-unused-requires : tie.Need-clear-unused-requires
-clear-unused-requires c κs = search needs
+clear-requires : tie.Need-clear-requires
+clear-requires c κs = search needs
 
 same-length : tie.Need-same-length
 same-length c = search needs
@@ -34,7 +34,7 @@ same-length-4 c = search needs
 returns : tie.Need-returns
 returns c = record {
   grown = put-all (c .before .before .before .before .before .before .before .before .before .before .before .before .before .put-some .ensures) (omega (arith, c .before .before .before .before .before .before .before .before .before .before .before .before .before .before .before .before .before .before .before .before .before .pre .table .few)) (c .before .before .before .before .before .before .before .before .before .before .if1 .taken);
-  clear = c .before .before .before .before .before .before .clear-unused .ensures;
+  clear = c .before .before .before .before .before .before .clear .ensures;
 }
 
 mul-file-edges : tie.Need-mul-file-edges
@@ -84,7 +84,7 @@ insert-spec =
     budget-requires
     put-some-requires
     add-if1
-    clear-unused-requires
+    clear-requires
     same-length
     same-length-2
     same-length-3
