@@ -11,8 +11,8 @@ import sys
 from progress import ROOT, Proving, Step, say
 
 
-# rt starts crates and edits in batches and waits for the slowest of each, so that two processors are kept busy by four times as many
-os.environ.setdefault("RT_JOBS", str(min(8, 4 * (os.cpu_count() or 1))))
+# rt starts crates and edits in batches and waits for the slowest of each, so that two processors are kept busy by twice as many
+os.environ.setdefault("RT_JOBS", str(min(8, 2 * (os.cpu_count() or 1))))
 
 
 def toolchain():
