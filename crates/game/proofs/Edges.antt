@@ -1,13 +1,13 @@
 -- How a loop reads a flat list, two numbers at a time, as edges.
 -- Assumes nothing.
-use mathlib.Core.Path.{_≡_, refl}
-use mathlib.Core.List.{List, [], _∷_}
-use Prim.Native.Nat.{ℕ, suc, _+_, _/_, _≤_, _<_}
+use mathlib.Core.Path.{_≡_, refl, ap}
+use mathlib.Core.List.{List, [], _∷_, _++_}
+use Prim.Native.Nat.{ℕ, suc, _+_, _/_, _%_, _≤_, _<_}
 use native.Mathlib.Numerals.{add-one, add-two}
 use native.Mathlib.Omega.{arith}
 use lib.ListN.{length, getD, drop, length-drop}
 use lib.Seq.{drop-cons}
-use Rattle.game.specs.Edge.{_─_, edges}
+use Rattle.game.specs.Edge.{Edge, _─_, edges}
 
 -- what is left of the list at i is the edge that stands there and what is left two places on
 pub edges-drop : (xs : List ℕ) (i : ℕ) → i + 1 < length xs → edges (drop i xs) ≡ (getD xs i 0 ─ getD xs (i + 1) 0) ∷ edges (drop (i + 2) xs)
@@ -33,3 +33,10 @@ unfolding edges
 edges-length [] = refl
 edges-length (x ∷ []) = refl
 edges-length (x ∷ y ∷ xs) = omega (arith, edges-length xs)
+
+-- a list of even length, read before another
+pub edges-append : (xs ys : List ℕ) → length xs % 2 ≡ 0 → edges (xs ++ ys) ≡ edges xs ++ edges ys
+unfolding edges
+edges-append [] ys h = refl
+edges-append (a ∷ []) ys h = absurd (omega arith)
+edges-append (a ∷ b ∷ xs) ys h = ap (λ (es : List Edge). (a ─ b) ∷ es) (edges-append xs ys (omega arith))

@@ -14,7 +14,7 @@ use Rattle.refusal.specs.Refusal.{given, first, badCount, wrongLength, odd, fir
 use Rattle.refusal.specs.Outcome.{Done, done}
 use Rattle.indexing.specs.Index.{Index, vertices, indexOf}
 
--- each edge stands in two runs
+-- in document 01's order; the neighbours have two entries to an edge, because it stands in two runs
 unfoldable pub indexRefusal : Index → (old added : List ℕ) → ℕ
 indexRefusal t old added =
     let both : List Edge = edges old ++ edges added in

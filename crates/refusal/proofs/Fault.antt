@@ -1,10 +1,10 @@
 -- Laws of edge faults, and what a list without a fault is.
 -- Assumes nothing.
 use mathlib.Core.Path.{_≡_, refl, sym, _∙_}
-use mathlib.Core.List.{List, [], _∷_}
+use mathlib.Core.List.{List, [], _∷_, _++_}
 use Prim.Native.Nat.{ℕ, _+_, _≤_, _<_}
 use native.Mathlib.Omega.{arith}
-use native.Mathlib.Decide.{decLe}
+use native.Mathlib.Decide.{ℕ-discrete, decLe}
 use mathlib.Core.Logic.{by-cases}
 use lib.ListN.{length, getD, drop}
 use borrow.Author.Tests.{le-leb, lt-leb, eq-eqb, ne-eqb}
@@ -46,6 +46,25 @@ first-fault-here n e es h = first-stop (fault n e) (firstFault n es ∷ []) h
 pub first-fault-on : (n : ℕ) (e : Edge) (es : List Edge) → fault n e ≡ 0 → firstFault n (e ∷ es) ≡ firstFault n es
 unfolding firstFault
 first-fault-on n e es h = first-pass (fault n e) (firstFault n es ∷ []) h ∙ first-last (firstFault n es)
+
+-- Two lists, one behind the other: the first decides, if it has a fault,
+pub fault-first : (n : ℕ) (es fs : List Edge) → (firstFault n es ≡ 0 → ⊥) → firstFault n (es ++ fs) ≡ firstFault n es
+unfolding firstFault
+fault-first n [] fs h = absurd (h refl)
+fault-first n (e ∷ es) fs h =
+    by-cases (ℕ-discrete (fault n e) 0)
+    (λ (z : fault n e ≡ 0).
+    first-fault-on n e (es ++ fs) z ∙ fault-first n es fs (λ k. h (first-fault-on n e es z ∙ k)) ∙ sym (first-fault-on n e es z))
+    (λ (d : fault n e ≡ 0 → ⊥). first-fault-here n e (es ++ fs) d ∙ sym (first-fault-here n e es d))
+
+-- else the second does
+pub fault-second : (n : ℕ) (es fs : List Edge) → firstFault n es ≡ 0 → firstFault n (es ++ fs) ≡ firstFault n fs
+unfolding firstFault
+fault-second n [] fs h = refl
+fault-second n (e ∷ es) fs h =
+    by-cases (ℕ-discrete (fault n e) 0)
+    (λ (z : fault n e ≡ 0). first-fault-on n e (es ++ fs) z ∙ fault-second n es fs (sym (first-fault-on n e es z) ∙ h))
+    (λ (d : fault n e ≡ 0 → ⊥). absurd (d (sym (first-fault-here n e es d) ∙ h)))
 
 -- A scan of a flat list, two numbers at a time, with the scan at i: what is left decides.
 module _ (n : ℕ) (xs : List ℕ) (i : ℕ) where

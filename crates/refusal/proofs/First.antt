@@ -2,12 +2,12 @@
 -- Assumes nothing.
 use mathlib.Core.Path.{_≡_, refl}
 use mathlib.Core.Bool.{Bool, true, false}
-use mathlib.Core.List.{List, [], _∷_}
+use mathlib.Core.List.{List, [], _∷_, _++_}
 use Prim.Native.Nat.{ℕ, zero, suc, _%_, _≤_, _<_}
 use native.Mathlib.Nat.{pos-of-ne-zero}
 use native.Mathlib.Omega.{arith}
 use lib.Dec.{eqb, ltb}
-use lib.ListN.{length}
+use lib.ListN.{length, length-append}
 use borrow.Author.Tests.{eq-eqb, ne-eqb, eqb-true, eqb-false, ltb-false, not-false}
 use Rattle.game.proofs.Bools.{or-neither}
 use Rattle.refusal.specs.Limits.{maxVertices}
@@ -29,6 +29,12 @@ pub first-last : (k : ℕ) → first (k ∷ []) ≡ k
 unfolding first
 first-last zero = refl
 first-last (suc k) = refl
+
+-- what comes behind a test may be exchanged for what decides the same
+pub first-same : (k : ℕ) (ks js : List ℕ) → first ks ≡ first js → first (k ∷ ks) ≡ first (k ∷ js)
+unfolding first
+first-same zero ks js e = e
+first-same (suc k) ks js e = refl
 
 -- accepted: no test applied
 pub first-none : (k : ℕ) (ks : List ℕ) → first (k ∷ ks) ≡ 0 → (k ≡ 0) × (first ks ≡ 0)
@@ -99,6 +105,13 @@ odd-list xs d = rw (ne-eqb (length xs % 2) 0 d)
 pub list-even : (xs : List ℕ) → odd xs ≡ false → length xs % 2 ≡ 0
 unfolding odd
 list-even xs e = eqb-true (length xs % 2) 0 (not-false (eqb (length xs % 2) 0) e)
+
+-- a list of even length before another
+pub odd-append : (xs ys : List ℕ) → length xs % 2 ≡ 0 → odd (xs ++ ys) ≡ odd ys
+unfolding odd
+odd-append xs ys h =
+    let e : length (xs ++ ys) % 2 ≡ length ys % 2 = omega (arith, length-append xs ys) in
+    rw e refl
 
 -- a count that is not refused
 pub good-count : (n : ℕ) → badCount n ≡ false → (0 < n) × (n ≤ maxVertices)

@@ -6,7 +6,8 @@ use Rattle.game.specs.Edge.{edges}
 use Rattle.refusal.proofs.First.{pass, stop, first-end, first-pass, first-stop, right-length, wrong-length, even-list, odd-list}
 use Rattle.indexing.specs.Index.{vertices}
 use Rattle.indexing.specs.Build.{indexRefusal}
-use Rattle.indexing.proofs.Refused.{both-length, fault-first, fault-second, too-many, not-many}
+use Rattle.refusal.proofs.Fault.{fault-first, fault-second}
+use Rattle.indexing.proofs.Refused.{both-length, too-many, not-many}
 use Rattle.indexing.proofs.indexing.index_refusal.Statement.{statement}
 use Rattle.indexing.proofs.indexing.index_refusal.Tie as tie
 
