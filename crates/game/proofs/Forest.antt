@@ -7,13 +7,13 @@ use mathlib.Core.Logic.{_≢_, inl, inr, by-cases}
 use mathlib.Core.List.{List, [], _++_, List·Memᴰ}
 use Prim.Native.Nat.{ℕ, zero, suc, _+_, _≤_, _<_, max}
 use native.Mathlib.Nat.{le-refl, le-of-lt, le-max-right, ne-of-lt}
-use native.Mathlib.Decide.{ℕ-discrete}
+use native.Mathlib.Decide.{ℕ-discrete, decLt}
 use native.Mathlib.Omega.{arith}
-use lib.ListN.{length, getD, replicate}
+use lib.ListN.{length, getD, replicate, List·getD-eq-default}
 use Rattle.game.specs.Edge.{Edge, _─_}
 use Rattle.game.specs.Game.{absent, parent, forest}
 use Rattle.game.specs.Tree.{links, sound}
-use Rattle.game.proofs.Conn.{Conn, stay, go, conn-step, conn-trans, conn-sym, conn-up, Within, within-refl, within-both}
+use Rattle.game.proofs.Conn.{Conn, stay, go, conn-step, conn-trans, conn-sym, conn-up, Within, within-refl, within-both, within-left, within-conn}
 use Rattle.game.specs.Graph.{Linked, forth, Proper}
 use Rattle.game.proofs.Tables.{tabulate-length, tabulate-entry, tabulate-unique, tabulate-ext, tabulate-const}
 use Rattle.game.proofs.Proper.{linked-nil}
@@ -102,6 +102,25 @@ pub join-law : {n : ℕ} {g h : List Edge} → n ≤ absent → Proper n g → P
     → forest n (g ++ h) ≡ forest n (links (forest n g) ++ links (forest n h))
 join-law {n} {g} {h} u p q =
     forest-same n (within-both (within-forest u p) (within-forest u q)) (within-both (forest-within n g) (forest-within n h))
+
+-- parents only fall when edges are added, absent being the highest
+parent-falls : (g h : List Edge) (x : ℕ) → parent (g ++ h) x ≤ parent g x
+parent-falls g h x = by-cases (ℕ-discrete (parent g x) absent)
+    (λ (e : parent g x ≡ absent). omega (arith, parent-least (g ++ h) x .small))
+    (λ (d : parent g x ≢ absent).
+    parent-least (g ++ h) x .least (parent g x) (parent-least g x .above d) (within-conn (within-left g h) (parent-least g x .joined d)))
+
+forest-falls : (n : ℕ) (g h : List Edge) (x : ℕ) → getD (forest n (g ++ h)) x absent ≤ getD (forest n g) x absent
+forest-falls n g h x = by-cases (decLt x n)
+    (λ (l : x < n). omega (arith, forest-entry n (g ++ h) l, forest-entry n g l, parent-falls g h x))
+    (λ (o : x < n → ⊥). omega (arith, beyond g (omega arith), beyond (g ++ h) (omega arith)))
+  where
+    beyond : (k : List Edge) → n ≤ x → getD (forest n k) x absent ≡ absent
+    beyond k o = List·getD-eq-default (forest n k) absent (omega (arith, forest-length n k))
+
+-- so do those of a sound table whose links are among the edges
+pub links-fall : {p : List ℕ} → Sound p → length p ≤ absent → (h : List Edge) (x : ℕ) → getD (forest (length p) (links p ++ h)) x absent ≤ getD p x absent
+links-fall {p} s u h x = subst (λ (q : List ℕ). getD (forest (length p) (links p ++ h)) x absent ≤ getD q x absent) (forest-links s u) (forest-falls (length p) (links p) h x)
 
 -- no edge, no parent
 pub forest-empty : (n : ℕ) → forest n [] ≡ replicate n absent

@@ -23,6 +23,10 @@ unfolding judged
 accepted-none zero values e = refl
 accepted-none (suc k) values e = let z : _≡_ {A = ℕ} 0 1 = cc in absurd (omega arith)
 
+-- with the call's own values
+pub accepted-values : {X : Type 0} (k : ℕ) (values : X) {v : X} → judged k values ≡ accepted v → values ≡ v
+accepted-values {X} k values {v} e = let same : accepted values ≡ accepted v = sym (judged-accepted k values (accepted-none k values e)) ∙ e in cc
+
 module _ {X A : Type 0} (k : ℕ) (values : X) (was new : A) where
   -- refused: the number, and the tables as they were
   pub ends-refused : {m : ℕ} {t : A} → m ≡ k → (k ≡ 0 → ⊥) → t ≡ was → ended (refused m) t ≡ decided k values was new

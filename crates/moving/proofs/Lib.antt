@@ -1,0 +1,4 @@
+-- Laws of where a forest moved.
+pub mod Differ
+pub mod Fallen
+pub mod Followed

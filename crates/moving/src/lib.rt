@@ -1,0 +1,46 @@
+// Where a forest moved (document 02, Paper 2): what adding and joining answer. While they work, it is the number of a vertex, absent where
+// none has moved.
+use net::Net;
+ghost use mathlib.Core.Path.{_≡_};
+ghost use Prim.Native.Nat.{min};
+ghost use Rattle.moving.specs.Moved.{rankOf};
+ghost use Rattle.moving.specs.Steps.{movedAt};
+
+// The lowest vertex whose parent is another than before, or nothing: all parents are as before.
+pub enum Moved {
+    Lowest(u32),
+    Nothing,
+}
+
+// What adding and joining answer: where the forest moved, or the number for which the call was refused.
+pub enum GrowthAnswer {
+    Accepted(Moved),
+    Refused(u32),
+}
+
+// The lower of two vertices. Absent is the higher of any two.
+pub fn lower(a: u32, b: u32) -> u32
+    ensures { λ r. ⌜ r ≡ min a b ⌝ }
+{
+    if b < a { b } else { a }
+}
+
+// The answer by the lowest vertex that moved.
+pub fn moved_at(rank: u32) -> Moved
+    ensures { λ r. ⌜ r ≡ movedAt rank ⌝ }
+{
+    if rank == Net::ABSENT {
+        return Moved::Nothing;
+    }
+    Moved::Lowest(rank)
+}
+
+// The answer as one number: absent, where none moved.
+pub fn rank(moved: Moved) -> u32
+    ensures { λ r. ⌜ r ≡ rankOf moved ⌝ }
+{
+    match moved {
+        Moved::Lowest(rank) => rank,
+        Moved::Nothing => Net::ABSENT,
+    }
+}
