@@ -11,7 +11,7 @@
 #include <stdlib.h>
 #include <string.h>
 
-enum { FEW = 100 };
+enum { FEW = 100, STRETCH = 1024 };
 
 static struct tables make_tables(size_t n, size_t m)
 {
@@ -35,15 +35,21 @@ static void start(uint32_t *parents, uint32_t *weights, size_t n)
     must(niqastul_start(parents, n, weights, n) == 0, "start refused");
 }
 
-static void add(struct tables *t, uint32_t *parents, uint32_t *weights, size_t n, const uint32_t *edges, size_t m)
+/* Answers where the forest moved, as join does. */
+static uint32_t add(struct tables *t, uint32_t *parents, uint32_t *weights, size_t n, const uint32_t *edges, size_t m)
 {
-    must(niqastul_add(parents, n, weights, n, edges, 2 * m, t->ends, n, t->jump, n, t->lower, n + m) == 0, "add refused");
+    uint32_t moved;
+    must(niqastul_add(parents, n, weights, n, edges, 2 * m, t->ends, n, t->jump, n, t->lower, n + m, &moved) == 0, "add refused");
+    return moved;
 }
 
-static void join(struct tables *t, size_t n)
+static uint32_t join(struct tables *t, size_t n)
 {
-    must(niqastul_join(t->parents, n, t->weights, n, t->parents2, n, t->weights2, n, t->ends, n, t->jump, n, t->lower, 2 * n) == 0,
+    uint32_t moved;
+    must(niqastul_join(t->parents, n, t->weights, n, t->parents2, n, t->weights2, n, t->ends, n, t->jump, n, t->lower, 2 * n,
+                       &moved) == 0,
          "join refused");
+    return moved;
 }
 
 static void relabel(const struct net *net, struct tables *t)
@@ -97,6 +103,19 @@ static uint64_t pass(const uint32_t *parents, const uint32_t *weights, size_t n)
     return sum;
 }
 
+/* What a host does that is not told where a forest moved: it compares all parents with a copy from before, a stretch at a time, and
+ * copies them anew from the first on that is another, which is answered. */
+static uint32_t compare_all(const uint32_t *parents, uint32_t *copy, size_t n)
+{
+    size_t x = 0;
+    while (x + STRETCH <= n && !memcmp(parents + x, copy + x, 4 * STRETCH))
+        x += STRETCH;
+    while (x < n && parents[x] == copy[x])
+        x++;
+    memcpy(copy + x, parents + x, 4 * (n - x));
+    return x < n ? (uint32_t)x : NIQASTUL_ABSENT;
+}
+
 static volatile uint64_t sink;
 
 /* Every contender runs once in each round, so that what else the machine does meets all alike. */
@@ -108,11 +127,11 @@ static void measure(const char *family, const struct net *net)
     uint32_t *most = room(n, 4), *most_weights = room(n, 4);
     int *parents = NULL;
     double grow, peer, triplets, plain, added, one_pass, joined, plain_joined, relabelled, checked_relabelled, plain_relabelled;
-    double saved, plain_saved, was_read, plain_was_read;
+    double compared, saved, plain_saved, was_read, plain_was_read;
     static const uint32_t blocks[] = {16, MAX_BLOCKS};
     double divided[] = {1e300, 1e300}, plain_divided[] = {1e300, 1e300}, counted = 1e300, reported = 1e300, plain_reported = 1e300;
     grow = peer = triplets = plain = added = one_pass = joined = plain_joined = relabelled = checked_relabelled = plain_relabelled = 1e300;
-    saved = plain_saved = was_read = plain_was_read = 1e300;
+    compared = saved = plain_saved = was_read = plain_was_read = 1e300;
 
     start(first, first_weights, n);
     add(&t, first, first_weights, n, net->list, half);
@@ -130,16 +149,21 @@ static void measure(const char *family, const struct net *net)
         TIME(grow, (memset(t.parents, 1, 4 * n), memset(t.ends, 0, 4 * n)), (start(t.parents, t.weights, n), add(&t, t.parents, t.weights, n, net->list, m)));
         must(!memcmp(parents, t.parents, 4 * n), "the library and SuiteSparse disagree on growing");
 
+        uint32_t moved, plain_moved;
         TIME(added, (memcpy(t.parents, most, 4 * n), memcpy(t.weights, most_weights, 4 * n)),
-             add(&t, t.parents, t.weights, n, net->list + 2 * (m - few), few));
+             moved = add(&t, t.parents, t.weights, n, net->list + 2 * (m - few), few));
         must(!memcmp(parents, t.parents, 4 * n), "the library and SuiteSparse disagree on adding");
         TIME(one_pass, , sink = pass(t.parents, t.weights, n));
+        TIME(compared, memcpy(t.parents2, most, 4 * n), plain_moved = compare_all(t.parents, t.parents2, n));
+        must(moved == plain_moved, "the library and plain C disagree on where the forest moved");
 
         memcpy(t.parents2, second, 4 * n), memcpy(t.weights2, second_weights, 4 * n);
         TIME(plain_joined, memcpy(t.parents, first, 4 * n), plain_join(n, &t));
         must(!memcmp(parents, t.parents, 4 * n), "plain C and SuiteSparse disagree on joining");
-        TIME(joined, (memcpy(t.parents, first, 4 * n), memcpy(t.weights, first_weights, 4 * n)), join(&t, n));
+        TIME(joined, (memcpy(t.parents, first, 4 * n), memcpy(t.weights, first_weights, 4 * n)), moved = join(&t, n));
         must(!memcmp(parents, t.parents, 4 * n), "the library and SuiteSparse disagree on joining");
+        memcpy(t.parents2, first, 4 * n);
+        must(moved == compare_all(t.parents, t.parents2, n), "the library and plain C disagree on where a joined forest moved");
 
         TIME(plain_saved, , plain_save(n, &t));
         TIME(saved, , save(&t, n));
@@ -176,7 +200,7 @@ static void measure(const char *family, const struct net *net)
     row("grow", family, net);
     printf("\tniqastul\t%.4f\tSuiteSparse\t%.4f\tcs_compress\t%.4f\tplain C\t%.4f\n", grow, peer, triplets, plain);
     row("add 100", family, net);
-    printf("\tniqastul\t%.4f\tone pass\t%.4f\tSuiteSparse\t%.4f\n", added, one_pass, peer);
+    printf("\tniqastul\t%.4f\tone pass\t%.4f\tcompare all\t%.4f\tSuiteSparse\t%.4f\n", added, one_pass, compared, peer);
     row("join", family, net);
     printf("\tniqastul\t%.4f\tSuiteSparse\t%.4f\tplain C\t%.4f\n", joined, peer, plain_joined);
     row("relabel", family, net);

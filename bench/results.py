@@ -27,12 +27,14 @@ builds compressed columns from the edge list into tables that exist already and 
 through its triplet form. Neither checks its input or counts weights. `plain C` is the bare algorithm of the library, compiled by
 gcc -O3; `checked C` is plain C that finds the same refusals before it writes anything, as the library does. `one pass` reads the
 net's two tables once. SuiteSparse can neither add nor join: its time there is that of the whole net grown anew. All must come to
-the same parents. Dividing is measured with a limit of a quarter of a block's even share of the total, or the largest weight. A
-report grows the net of the edges and compares it, counts reaches, divides, and counts blocks; SuiteSparse's time there is that of
-`cs_etree` with its columns, `cs_post` and `cs_counts`, whose column counts have to be the reaches. An index is built of the list
-in two halves; `plain C` is there the counting sort without refusals, `cs_compress` SuiteSparse's compressed columns of each edge as
-two triplets, which have to be the same tables. A query tests all starts; `one pass` reads them once, and `scan` is what a query
-takes without an index: all edges of the list, each tested for the rank. Growing in two threads is
+the same parents. Adding tells where the forest moved; `compare all` is what a host that is not told does besides: plain C that
+compares all parents with a copy from before and copies them anew, and has to find the same rank. Dividing is measured with a
+limit of a quarter of a block's even share of the total, or the largest weight. A report grows the net of the edges and compares
+it, counts reaches, divides, and counts blocks; SuiteSparse's time there is that of `cs_etree` with its columns, `cs_post` and
+`cs_counts`, whose column counts have to be the reaches. An index is built of the list in two halves; `plain C` is there the
+counting sort without refusals, `cs_compress` SuiteSparse's compressed columns of each edge as two triplets, which have to be
+the same tables. A query tests all starts; `one pass` reads them once, and `scan` is what a query takes without an index: all
+edges of the list, each tested for the rank. Growing in two threads is
 `Net::add_in_threads` of the Rust crate on a new net: half of the list in each, then a join; a list of fewer than two edges to a
 vertex is left to one thread. Its times are elapsed ones, the best of 7 rounds, with the allocation of all tables; they need two
 processors that nothing else uses.
@@ -67,7 +69,7 @@ def table(rows, against):
 # Plots: one panel for each family, time against size, both logarithmic.
 
 COLOURS = {"niqastul": "#0072B2", "SuiteSparse": "#D55E00", "plain C": "#777777", "checked C": "#CC79A7", "cs_compress": "#E69F00", "one pass": "#009E73",
-           "two threads": "#0072B2", "one thread": "#D55E00", "scan": "#D55E00"}
+           "compare all": "#E69F00", "two threads": "#0072B2", "one thread": "#D55E00", "scan": "#D55E00"}
 WIDTH, HEIGHT, LEFT, BOTTOM, TOP, COLUMNS = 250, 170, 40, 34, 26, 4
 
 

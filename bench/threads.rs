@@ -33,12 +33,12 @@ extern "C" {
     fn free_net(net: *mut CNet);
 }
 
-/// Milliseconds to grow a net in so many threads, and the net.
-fn grow(vertices: usize, edges: &[u32], threads: usize) -> (f64, Net) {
+/// Milliseconds to grow a net in so many threads, the net, and where its forest moved.
+fn grow(vertices: usize, edges: &[u32], threads: usize) -> (f64, (Net, Option<u32>)) {
     let began = Instant::now();
     let mut net = Net::new(vertices).unwrap();
-    net.add_in_threads(edges, threads).unwrap();
-    (began.elapsed().as_secs_f64() * 1e3, net)
+    let moved = net.add_in_threads(edges, threads).unwrap();
+    (began.elapsed().as_secs_f64() * 1e3, (net, moved))
 }
 
 fn measure(name: &str, vertices: usize, edges: &[u32]) {

@@ -12,6 +12,7 @@
 #include <stdlib.h>
 
 static int process, processes;
+static uint32_t moved; /* where a forest moved: of use to who has read it before */
 
 static void *room(size_t bytes)
 {
@@ -68,7 +69,7 @@ static void join(void *others, void *nets, int *count, MPI_Datatype *type)
     size_t n = (size_t)size / 8, most = niqastul_join_lower(n, n);
     uint32_t *net = nets, *other = others, *work = room(4 * (2 * n + most));
     for (int i = 0; i < *count; i++, net += 2 * n, other += 2 * n)
-        if (niqastul_join(net, n, net + n, n, other, n, other + n, n, work, n, work + n, n, work + 2 * n, most))
+        if (niqastul_join(net, n, net + n, n, other, n, other + n, n, work, n, work + n, n, work + 2 * n, most, &moved))
             MPI_Abort(MPI_COMM_WORLD, 2); /* cannot be: the nets are sound, and the total was looked at */
     free(work);
 }
@@ -106,7 +107,7 @@ int main(int count, char **files)
     agree(niqastul_relabel(order, n, edges, m, ranks, m, ends, n));
     agree(total > NIQASTUL_MAX_TOTAL ? NIQASTUL_FULL : NIQASTUL_ACCEPTED);
     agree(niqastul_start(net, n, net + n, n));
-    agree(niqastul_add(net, n, net + n, n, ranks, m, ends, n, jump, n, lower, most));
+    agree(niqastul_add(net, n, net + n, n, ranks, m, ends, n, jump, n, lower, most, &moved));
     reduce(net, n);
 
     if (process == 0) {

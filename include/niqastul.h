@@ -19,6 +19,11 @@
  * refused is accepted, and then every table that is not const is as the call says. Nothing is allocated or kept between
  * calls, and there is no other state: calls on different tables may run in different threads.
  *
+ * WHERE THE FOREST MOVED. Adding and joining tell in a cell the lowest rank whose parent is now another than before the call, or
+ * NIQASTUL_ABSENT if none moved; a weight alone that rises moves nothing. Every rank below the answer has its old parent, so that a
+ * host which keeps a copy of the parents rereads them from there on and misses nothing. Parents only fall, an absent one counting as
+ * the highest, so that after several calls in a row the lowest of their answers is the lowest rank that moved in all.
+ *
  * THE CALLER'S DUTY. The calls check every number and every length, and nothing else can be checked here:
  *   - each pointer leads to as many entries as its length says, readable, and writable where it is not const;
  *   - a table that is not const overlaps no other table of the same call;
@@ -35,7 +40,7 @@
 extern "C" {
 #endif
 
-#define NIQASTUL_ABSENT UINT32_C(0xFFFFFFFF) /* the parent of a vertex that has none */
+#define NIQASTUL_ABSENT UINT32_C(0xFFFFFFFF) /* the parent of a vertex that has none; where the forest moved, if it did not */
 #define NIQASTUL_MAX_VERTICES 1000000
 #define NIQASTUL_MAX_EDGES 16000000 /* of a list that is added, reported on or indexed */
 #define NIQASTUL_MAX_TOTAL 16000000 /* of the weights of a net */
@@ -83,6 +88,7 @@ uint32_t niqastul_start(uint32_t *parents, size_t parents_length,
  *   reads   edges   [m]        in ranks
  *   writes  parents [n], weights [n]
  *           ends [n], jump [n], lower [niqastul_add_lower(n, m)]      work; end as zeros
+ *           *moved             where the forest moved, or NIQASTUL_ABSENT
  *   refused 1, 2, 30, 4 or 5 at the first faulty edge, 20 (the old total and the new edges together, so
  *           that a list of more than NIQASTUL_MAX_EDGES edges is always refused) */
 uint32_t niqastul_add(uint32_t *parents, size_t parents_length,
@@ -90,7 +96,8 @@ uint32_t niqastul_add(uint32_t *parents, size_t parents_length,
                       const uint32_t *edges, size_t edges_length,
                       uint32_t *ends, size_t ends_length,
                       uint32_t *jump, size_t jump_length,
-                      uint32_t *lower, size_t lower_length);
+                      uint32_t *lower, size_t lower_length,
+                      uint32_t *moved);
 
 static inline size_t niqastul_add_lower(size_t parents_length, size_t edges_length)
 {
@@ -102,6 +109,7 @@ static inline size_t niqastul_add_lower(size_t parents_length, size_t edges_leng
  *   reads   other_parents [n], other_weights [n]
  *   writes  parents [n], weights [n]
  *           ends [n], jump [n], lower [niqastul_join_lower(n, the other net's n)]     work; end as zeros
+ *           *moved             where the forest moved, or NIQASTUL_ABSENT
  *   refused 1 (of either net), 2 (each net's weights against its own parents, lower against the sum of both vertex counts, also
  *           where they differ: 2 comes before 21), 21, 30 (of either net), 20 (both totals together) */
 uint32_t niqastul_join(uint32_t *parents, size_t parents_length,
@@ -110,7 +118,8 @@ uint32_t niqastul_join(uint32_t *parents, size_t parents_length,
                        const uint32_t *other_weights, size_t other_weights_length,
                        uint32_t *ends, size_t ends_length,
                        uint32_t *jump, size_t jump_length,
-                       uint32_t *lower, size_t lower_length);
+                       uint32_t *lower, size_t lower_length,
+                       uint32_t *moved);
 
 static inline size_t niqastul_join_lower(size_t parents_length, size_t other_parents_length)
 {

@@ -11,19 +11,18 @@ def zeros(length):
 
 
 def run(name, **tables):
-    """Calls the library on arrays as they stand; work tables are made here."""
+    """Calls the library on arrays as they stand; work tables are made here, and the cell of a forest that moves if none is lent."""
     call = PRESENT[name]
     n = len(tables.get("parents", ()))
     lower = n + len(tables.get("edges", ())) // 2 + len(tables.get("other_parents", ()))
     work = {"ends": n, "jump": n, "lower": lower, "inverse": len(tables.get("order", ()))}
-    words, work_tables = [], []
+    words, tables = [], {"moved": zeros(1)} | tables
     for table, kind in call.kinds.items():
         if kind == "#":
             words.append(ctypes.c_uint32(tables[table]))
             continue
         if kind == "*":
             tables[table] = zeros(work[table])
-            work_tables.append(table)
         words.append(ctypes.c_void_p(tables[table].buffer_info()[0]))
         if kind != "@":
             words.append(ctypes.c_size_t(len(tables[table])))

@@ -8,6 +8,8 @@ import sys
 import tempfile
 
 from library import ROOT
+from oracle import calls
+from oracle.forest import ABSENT
 
 PYTHON = ROOT / "bindings" / "python"
 sys.path.insert(0, str(PYTHON))
@@ -34,6 +36,12 @@ def broken(rng, files, values=256):
     place = rng.randrange(len(data) + 1)
     files[which] = data[:place] + (bytes([rng.randrange(values)]) + data[place + 1:]) * rng.randrange(2)
     return files
+
+
+def moved_line(before, after):
+    """What add and join print, given the bytes of a link file and of the one that came of it."""
+    rank = calls.moved(*(calls.words(link)[0::2] for link in (before, after)))
+    return "none moved\n" if rank == ABSENT else f"moved {rank}\n"
 
 
 class Folder:

@@ -26,13 +26,14 @@ def start(rng, n):
 
 def add(rng, n):
     _, parents, weights = a_net(rng, n)
-    return {"parents": parents, "weights": weights, "edges": nets.flat(nets.ties(rng, n, nets.dense))}
+    return {"parents": parents, "weights": weights, "edges": nets.flat(nets.ties(rng, n, nets.dense)), "moved": nets.garbage(rng, 1)}
 
 
 def join(rng, n):
     _, parents, weights = a_net(rng, n)
     _, other_parents, other_weights = a_net(rng, n)
-    return {"parents": parents, "weights": weights, "other_parents": other_parents, "other_weights": other_weights}
+    others = {"other_parents": other_parents, "other_weights": other_weights, "moved": nets.garbage(rng, 1)}
+    return {"parents": parents, "weights": weights} | others
 
 
 def save(rng, n):

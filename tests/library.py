@@ -24,8 +24,8 @@ COUNTED = {"relabel": ("order", 0), "index": ("starts", 1), "query": ("starts", 
 
 class Call:
     """`parameters` names them in their order: `name` is a table that is read, `name!` one that is written, `name*` a work table,
-    `name#` a number and `name@` a cell, lent as a table of one entry without its length. `judge` takes the inputs by name and answers the number and the written tables by name. `work` answers the work
-    tables as they end."""
+    `name#` a number and `name@` a cell, lent as a table of one entry without its length. `judge` takes the inputs by name and answers
+    the number and the written tables by name. `work` answers the work tables as they end."""
 
     def __init__(self, name, parameters, judge, work=lambda given: {}):
         self.name, self.symbol, self.judge, self.work_end = name, "niqastul_" + name, judge, work
@@ -84,25 +84,15 @@ def inverse_of(given):
     return {"inverse": [rank.get(vertex, 0) for vertex in range(len(order))]}
 
 
-def report(*given):
-    """The oracle's report, its bound and volume written to their cells where it is accepted."""
-    *given, bound, volume = given
-    number, *after, its_bound, its_volume = calls.report(*given)
-    return number, *after, bound if number else [its_bound], volume if number else [its_volume]
-
-
-def query(starts, its_neighbours, rank, *cells):
-    """The oracle's query, the place and the length of what it hands back written to their cells."""
-    number, first, count = neighbours.query(starts, its_neighbours, rank)
-    return number, [first], [count]
-
-
 def call(name, parameters, oracle, work=lambda given: {}):
-    """A call whose oracle has the same tables in the same order, less the work tables."""
+    """A call whose oracle has the same tables in the same order, less the work tables and the cells. What goes to the cells comes last
+    in its answer; for None a cell stays as it was."""
 
     def judge(given):
-        number, *after = oracle(*(given[table] for table, kind in its.kinds.items() if kind != "*"))
-        return number, dict(zip(its.named("!", "@"), after))
+        number, *after = oracle(*(given[table] for table in its.named("", "!", "#")))
+        written, answers = its.named("!"), its.named("@")
+        cells = {cell: [answer] for cell, answer in zip(answers, after[len(written):]) if answer is not None}
+        return number, dict(zip(written, after)) | cells
 
     its = Call(name, parameters, judge, work)
     return its
@@ -111,18 +101,18 @@ def call(name, parameters, oracle, work=lambda given: {}):
 CALLS = [
     call("relabel", "order edges out! inverse*", calls.translate, inverse_of),
     call("start", "parents! weights!", calls.start),
-    call("add", "parents! weights! edges ends* jump* lower*", calls.add,
+    call("add", "parents! weights! edges ends* jump* lower* moved@", calls.add,
          lambda g: work_of(g, len(g["parents"]) + len(g["edges"]) // 2)),
-    call("join", "parents! weights! other_parents other_weights ends* jump* lower*", calls.join,
+    call("join", "parents! weights! other_parents other_weights ends* jump* lower* moved@", calls.join,
          lambda g: work_of(g, len(g["parents"]) + len(g["other_parents"]))),
     call("save", "parents weights bytes!", calls.save),
     call("read", "parents! weights! bytes", calls.read),
     call("divide", "parents weights limit# blocks# carried! top! block! block_loads!", calls.divide),
     call("report", "parents weights limit# blocks# edges carried! top! block! block_loads! edge_blocks! reach! block_count! "
-         "compared_parents! compared_weights! ends* jump* lower* bound@ volume@", report,
+         "compared_parents! compared_weights! ends* jump* lower* bound@ volume@", calls.report,
          lambda g: work_of(g, len(g["parents"]) + len(g["edges"]) // 2)),
     call("index", "old_edges added starts! neighbours!", neighbours.index),
-    call("query", "starts neighbours rank# first@ count@", query),
+    call("query", "starts neighbours rank# first@ count@", neighbours.query),
 ]
 
 # the calls that the library has

@@ -7,6 +7,7 @@ import test_oracle
 import test_lines
 import test_interface
 import test_forest
+import test_moved
 import test_index
 import test_refusals
 import test_histories
@@ -16,6 +17,7 @@ import test_blocks
 import test_limits
 import test_bindings
 import test_commands
+import test_adding
 import test_neighbours
 import test_split
 import test_pictures

@@ -10,7 +10,7 @@ import sys
 from unittest import mock
 
 import nets
-from commands import PYTHON, THREE, a_folder, broken
+from commands import PYTHON, THREE, a_folder, broken, moved_line
 from harness import test
 from library import ROOT
 from oracle import blocks, calls
@@ -37,7 +37,9 @@ FAULTS = [(1, {"marks_ord": b""}), (1, {"marks_ord": b"abc"}), (1, {"marks_ord":
 
 @test(at_least=400)
 def grown_and_joined(t):
-    """Two nets grown from files and joined are those of the oracle, and the joined one is that of all ties."""
+    """Two nets grown from files and joined are those of the oracle, and the joined one is that of all ties; printed is where the first
+    of them moved."""
+    met = set()
     with a_folder() as folder:
         for seed in range(70):
             rng = random.Random(seed)
@@ -48,9 +50,12 @@ def grown_and_joined(t):
                 folder.write(ties_rec=file_of(*edges))
                 t.same(folder.run("grow", "marks.ord", "ties.rec", name), (0, "", ""), seed)
                 t.same((folder.path / name).read_bytes(), link_file(order, edges), seed, name)
-            out = rng.choice(("a.link", "b.link", "out.link"))
-            t.same(folder.run("join", "a.link", "b.link", out), (0, "", ""), seed)
-            t.same((folder.path / out).read_bytes(), link_file(order, lists[0] + lists[1]), seed)
+            out, joined = rng.choice(("a.link", "b.link", "out.link")), link_file(order, lists[0] + lists[1])
+            line = moved_line(link_file(order, lists[0]), joined)
+            t.same(folder.run("join", "a.link", "b.link", out), (0, line, ""), seed)
+            t.same((folder.path / out).read_bytes(), joined, seed)
+            met.add(line)
+    t.true({"none moved\n", "moved 0\n", "moved 1\n"} <= met, met)
 
 
 def untouched(t, folder, words, number, *context):
@@ -133,7 +138,7 @@ def join_refusal(one, other):
     return 20 if sum(calls.words(one)[1::2] + calls.words(other)[1::2]) > calls.MAX_TOTAL else 0
 
 
-@test(at_least=500)
+@test(at_least=600)
 def broken_links(t):
     """Link files with several faults at once."""
     seen = set()
@@ -152,7 +157,10 @@ def broken_links(t):
             if number:
                 untouched(t, folder, ("join", "a.link", "b.link", "out"), number, seed)
             else:
-                t.same(folder.run("join", "a.link", "b.link", "out"), (0, "", ""), seed)
+                _, *net, _ = calls.join(*(calls.words(link)[half::2] for link in links for half in range(2)))
+                joined = bytes(calls.link_file(*net))
+                t.same(folder.run("join", "a.link", "b.link", "out"), (0, moved_line(links[0], joined), ""), seed)
+                t.same((folder.path / "out").read_bytes(), joined, seed)
     t.same(seen, {0, 1, 6, 7, 20, 21})
 
 
@@ -208,7 +216,7 @@ def whole_or_not(t):
             os.rename(folder.path / "out", folder.path / words[0])
 
 
-@test(at_least=19)
+@test(at_least=24)
 def command_line(t):
     """As a program: help and its exit status, usage, what is printed where."""
     def ran(*words, **environment):
@@ -216,10 +224,14 @@ def command_line(t):
         return its.returncode, its.stdout, its.stderr
 
     status, out, _ = ran("-h", NIQASTUL_LIBRARY="/nowhere")
-    t.true(status == 0 and all(name in out for name in ("grow", "join", "split", "together", "picture", "neighbours", "exit status", "ties.rec")), out)
+    words = ("grow", "add", "join", "split", "together", "picture", "neighbours", "exit status", "ties.rec")
+    t.true(status == 0 and all(word in out for word in words), out)
     status, out, _ = ran("picture", "-h")
     t.true(status == 0 and "[places.txt]" in out and "ringed" in out, out)
-    for words in ((), ("shrink",), ("grow", "a", "b"), ("grow", "a", "b", "c", "d"), ("grow", "--fast", "a", "b", "c"),
+    for command, link in (("add", "net.link"), ("join", "a.link")):
+        status, out, _ = ran(command, "-h")
+        t.true(status == 0 and f"than in {link}:" in out and "`none moved`" in out, out)
+    for words in ((), ("shrink",), ("grow", "a", "b"), ("add", "a", "b", "c"), ("grow", "a", "b", "c", "d"), ("grow", "--fast", "a", "b", "c"),
                   ("neighbours", "a", "b"), ("neighbours", "a", "b", "0", "c"), ("neighbours", "a", "b", "-1"), ("neighbours", "a", "b", "1.0")):
         status, out, err = ran(*words)
         t.true(status == 2 and out == "" and "usage: python3 -m niqastul" in err, *words)
@@ -231,19 +243,21 @@ def command_line(t):
         t.same(ran("together", names[0], names[3], names[4]), (0, f"the blocks laid together are {names[4]}, byte for byte\n", ""))
         t.same(ran("picture", *names[:3], names[5]), (0, "", ""))
         t.same(ran("neighbours", *names[:2], "3", "2"), (0, "3 1 4 1\n2 0\n", ""))
+        t.same(ran("add", names[0], names[4], names[1], names[4]), (0, "none moved\n", ""))
+        t.same(ran("join", names[4], names[4], names[4]), (0, "none moved\n", ""))
         t.same(ran("grow", names[1], names[1], names[4]), (1, "", "refused 3: an entry of the order is out of range or repeats\n"))
         status, _, err = ran("grow", *names[:2], names[4], NIQASTUL_LIBRARY="/nowhere")
         t.true(status == 2 and "NIQASTUL_LIBRARY" in err and err.count("\n") == 1, err)
-        t.same((folder.path / "net.link").read_bytes(), link_file(ORDER, TIES))
+        t.same((folder.path / "net.link").read_bytes(), link_file(ORDER, TIES * 4))
 
 
 @test(at_least=6, given=SHOWN)
 def commands_of_readme(t):
-    """Those that README shows, on the yard, one after the other; of neighbours it shows what is printed."""
+    """Those that README shows, on the yard, one after the other; of some it shows what is printed."""
     with a_folder() as folder:
         subprocess.run([sys.executable, ROOT / "examples" / "yard.py", folder.path], check=True)
         for line in SHOWN:
             status, out, err = folder.run(*line.split())
             t.same((status, err), (0, ""), line)
-            if line.startswith("neighbours"):
+            if line.split()[0] in ("add", "join", "neighbours"):
                 t.true(out and "".join(f"    {its}\n" for its in out.splitlines()) in README, out)

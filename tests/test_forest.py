@@ -5,7 +5,7 @@ import random
 
 import nets
 from harness import test
-from library import PRESENT, inverse_of, work_of
+from library import PRESENT, inverse_of
 from oracle.forest import ABSENT
 
 
@@ -15,20 +15,29 @@ def start(t, n, *context):
     return after["parents"], after["weights"]
 
 
-def add(t, net, edges, *context):
-    given = {"parents": net[0], "weights": net[1], "edges": edges}
-    given |= {name: [77] * len(end) for name, end in work_of(given, len(net[0]) + len(edges) // 2).items()}
-    number, after = PRESENT["add"].run(t, given, *context)
+def grow(t, name, net, others, *context):
+    """Adds or joins; answers the net afterwards, and where its forest moved."""
+    given = {"parents": net[0], "weights": net[1], "moved": [77]} | others
+    given |= {table: [77] * len(end) for table, end in PRESENT[name].work_end(given).items()}
+    number, after = PRESENT[name].run(t, given, *context)
     t.same(number, 0, *context)
-    return after["parents"], after["weights"]
+    return (after["parents"], after["weights"]), after["moved"][0]
 
 
-def join(t, net, other, *context):
-    given = {"parents": net[0], "weights": net[1], "other_parents": other[0], "other_weights": other[1]}
-    given |= {name: [77] * len(end) for name, end in work_of(given, len(net[0]) + len(other[0])).items()}
-    number, after = PRESENT["join"].run(t, given, *context)
-    t.same(number, 0, *context)
-    return after["parents"], after["weights"]
+def added(t, net, edges, *context):
+    return grow(t, "add", net, {"edges": edges}, *context)
+
+
+def joined(t, net, other, *context):
+    return grow(t, "join", net, {"other_parents": other[0], "other_weights": other[1]}, *context)
+
+
+def add(*given):
+    return added(*given)[0]
+
+
+def join(*given):
+    return joined(*given)[0]
 
 
 @test(at_least=8_000)

@@ -16,10 +16,10 @@ NETS, FILES = range(4), range(2)
 class History:
     """A world of nets and files that holds anything at first, the calls made on it, and the book that is kept beside."""
 
-    def __init__(self, t, rng):
+    def __init__(self, t, rng, most=8):
         self.t, self.rng, self.book = t, rng, Book()
-        n = rng.randrange(1, 9)
-        self.nets = {net: self.any_net(n if rng.random() < 0.8 else rng.randrange(10)) for net in NETS}
+        n = rng.randrange(1, most + 1)
+        self.nets = {net: self.any_net(n if rng.random() < 0.8 else rng.randrange(most + 2)) for net in NETS}
         self.files = {file: self.any_file(n) for file in FILES}
         self.answers = []
         for net in NETS[:self.rng.randrange(len(NETS))]:
@@ -47,6 +47,7 @@ class History:
         """Makes a call on a net; answers whether it was accepted, and what else it wrote."""
         parents, weights = self.nets[net]
         given = {"parents": parents, "weights": weights} | others
+        given |= {cell: nets.garbage(self.rng, 1) for cell in PRESENT[name].named("@")}
         work = PRESENT[name].work_end(given)
         given |= {table: nets.garbage(self.rng, len(end) + (self.rng.random() < 0.02)) for table, end in work.items()}
         number, after = PRESENT[name].run(self.t, given)
@@ -95,7 +96,7 @@ class History:
         n, k, ties = len(self.nets[net][0]), self.rng.randrange(4), self.book.nets.get(net)
         flat = self.edges(net) if ties is None else nets.flat(ties)
         others = {"limit": self.rng.randrange(9), "blocks": k, "block_loads": nets.garbage(self.rng, k)}
-        others |= {"edges": flat, "edge_blocks": nets.garbage(self.rng, len(flat) // 2), "bound": [7], "volume": [7]}
+        others |= {"edges": flat, "edge_blocks": nets.garbage(self.rng, len(flat) // 2)}
         others |= {table: nets.garbage(self.rng, n) for table in PRESENT[name].named("!") if table not in others}
         self.call(name, net, **others)
 

@@ -94,13 +94,14 @@ def long_table(t):
         t.same(tuple(cell.value for cell in cells), part, length)
 
 
-@test(at_least=5)
+@test(at_least=6)
 def versions(t):
     """One version throughout; the shared object is named by it, so that a host built against another header cannot load it."""
     version = re.search(r"^VERSION = (\d+\.\d+)\.\d+$", (ROOT / "Makefile").read_text(), re.M)
     t.true(version, "the Makefile names the version")
     whole, name = version[0].split()[-1], "libniqastul.so." + version[1]
-    t.same(f'version = "{whole}"' in (ROOT / "bindings" / "rust" / "Cargo.toml").read_text(), True, whole)
+    for file in ("Cargo.toml", "Cargo.lock"):
+        t.true(f'version = "{whole}"' in (ROOT / "bindings" / "rust" / file).read_text(), whole, file)
     t.same(re.findall(r"libniqastul\.so\.[\d.]+\d", (ROOT / "bindings" / "python" / "niqastul" / "calls.py").read_text()), [name])
     shown = subprocess.run(["readelf", "-d", LIBRARY._name], check=True, capture_output=True, text=True).stdout
     t.same(re.findall(r"soname: \[(.*)\]", shown), [name])

@@ -52,6 +52,27 @@ def most_vertices(t):
     t.same(run("relabel", order=backward, edges=path, out=out), 3, "the last entry repeats")
 
 
+def links(*lowest):
+    """Two tables of a net of 1,000,000 vertices: these parents from rank 0 up, and the others absent."""
+    return array("I", lowest) + array("I", [ABSENT]) * (MOST - len(lowest)), zeros(MOST)
+
+
+@test(at_least=27)
+def farthest_moved(t):
+    """A forest of 1,000,000 vertices that moves next to its end alone, from its start on, or nowhere: by one edge, which goes all the
+    way up, by a list of as many as are grown with the whole forest, and by a join."""
+    last = MOST - 1
+    up, apart, (whole, _) = links(*range(1, last)), links(*range(2, MOST)), links(*range(1, MOST))
+    for net, edge, moved, after in ((up, (0, last), last - 1, whole), (apart, (0, 1), 0, whole), (up, (last - 1, 0), ABSENT, up[0])):
+        other = a_net(MOST, *edge)
+        for name, lent in (("add", {"edges": array("I", edge)}), ("add", {"edges": array("I", edge) * (MOST // 8)}),
+                           ("join", {"other_parents": other[0], "other_weights": other[1]})):
+            parents, cell = net[0][:], array("I", [7])
+            t.same(run(name, parents=parents, weights=net[1][:], moved=cell, **lent), 0, name, edge)
+            t.same(list(cell), [moved], name, edge)
+            t.true(parents == after, name, edge)
+
+
 @test(at_least=6)
 def one_vertex_too_many(t):
     """1,000,001 vertices are 1 in each call, whatever else is wrong, and no table changes."""

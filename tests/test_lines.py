@@ -26,15 +26,21 @@ def start(parents, weights):
     return calls.start(parents, weights)
 
 
+def grown(call, refusal, given, lower, sizes):
+    """An addition or a join to the net that is given first; where its forest moved is said with the answer."""
+    number, left = work(len(given[0]), lower, refusal(*given), sizes)
+    if number:
+        return number, *given[:2], *left
+    _, parents, weights, moved = call(*given)
+    return "none moved" if moved == ABSENT else f"moved {moved}", parents, weights, *left
+
+
 def add(parents, weights, edges, sizes):
-    number, left = work(len(parents), len(parents) + len(edges) // 2, calls.add_refusal(parents, weights, edges), sizes)
-    return number, *(calls.add(parents, weights, edges)[1:] if number == 0 else (parents, weights)), *left
+    return grown(calls.add, calls.add_refusal, (parents, weights, edges), len(parents) + len(edges) // 2, sizes)
 
 
 def join(parents, weights, others, their_weights, sizes):
-    given = parents, weights, others, their_weights
-    number, left = work(len(parents), len(parents) + len(others), calls.join_refusal(*given), sizes)
-    return number, *(calls.join(*given)[1:] if number == 0 else (parents, weights)), *left
+    return grown(calls.join, calls.join_refusal, (parents, weights, others, their_weights), len(parents) + len(others), sizes)
 
 
 def relabel(order, edges, sizes):
@@ -73,6 +79,8 @@ def report(parents, weights, numbers, sizes):
 
 
 def answer_text(answer):
+    if isinstance(answer, str):
+        return "accepted, " + answer
     if isinstance(answer, tuple):
         return "accepted, bound %d, volume %d" % answer
     return f"refused {answer}" if answer else "accepted"

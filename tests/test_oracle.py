@@ -1,4 +1,5 @@
-"""The oracle itself: document 01's nets on paper, its whole case, the laws that the document states, and runs worked by hand."""
+"""The oracle itself: document 01's nets on paper, its whole case, the laws that the documents state, and runs and moved forests worked
+by hand."""
 
 import random
 
@@ -67,10 +68,11 @@ def whole_case(t):
     t.same(run(4, 2, ties=file_of(7, 7)), "refused 4\n", "4 before 5")
 
 
-@test(at_least=14_000)
+@test(at_least=18_000)
 def laws(t):
-    """What document 01 claims besides: order of ties, joined parts, ends one above the other, block loads, volume and bound; and
-    that a reach is the number of higher neighbours in the game."""
+    """What document 01 claims besides: order of ties, joined parts, ends one above the other, block loads, volume and bound; that a
+    reach is the number of higher neighbours in the game; and that parents only fall, so that of several calls the lowest answer is
+    where the forest moved in all."""
     for seed in range(2000):
         rng = random.Random(seed)
         n = rng.randrange(1, 14)
@@ -80,7 +82,11 @@ def laws(t):
         t.same(net_of(n, shuffled), (parents, loads), "another order", seed)
         half = rng.randrange(len(ties) + 1)
         one, other = net_of(n, ties[:half]), net_of(n, ties[half:])
-        t.same(calls.join(*one, *other), (0, parents, loads), "joined parts", seed)
+        t.same(calls.join(*one, *other), (0, parents, loads, calls.moved(one[0], parents)), "joined parts", seed)
+        t.true(all(now <= before for before, now in zip(one[0], parents)), "parents only fall", seed)
+        third = rng.randrange(half + 1)
+        several = calls.add(*net_of(n, ties[:third]), nets.flat(ties[third:half])), calls.add(*one, nets.flat(ties[half:]))
+        t.same(min(answer for *_, answer in several), calls.moved(parents_of(n, ties[:third]), parents), "several calls", seed)
         t.same(parents_of(n, links(parents)), parents, "a forest's own links", seed)
         t.same(reaches(parents, ties), higher_neighbours(n, ties), "reach", seed)
         limit, k = max(loads) + rng.randrange(1, 4), rng.randrange(1, 5)
@@ -119,3 +125,21 @@ def runs_by_hand(t):
     t.same(neighbours.query([0, 2, 1], [7], 2), (30, 0, 0), "30 before 4")
     t.same(neighbours.query([0, 1], [7, 7], 0), (30, 0, 0), "up to the number of neighbours")
     t.same(neighbours.query([1, 1], [7], 0), (30, 0, 0), "from 0")
+
+
+@test(at_least=12)
+def moved_by_hand(t):
+    """Document 02, Paper 2: the lowest rank whose parent is now another; a load alone that rises moves nothing."""
+    p5 = net_of(3, [(0, 2)])
+    t.same(calls.moved([1, 2, NONE], [1, 2, NONE]), NONE, "all as before")
+    t.same(calls.moved([2, NONE, NONE], [1, 2, NONE]), 0, "the lowest of two")
+    t.same(calls.moved([2, NONE, NONE], [2, 2, NONE]), 1)
+    t.same(calls.add(*p5, [0, 1]), (0, [1, 2, NONE], [2, 0, 0], 0), "P6")
+    t.same(calls.join(*p5, *net_of(3, [(0, 1)])), (0, [1, 2, NONE], [2, 0, 0], 0), "P7")
+    t.same(calls.add(*p5, [2, 1]), (0, [2, 2, NONE], [1, 1, 0], 1))
+    t.same(calls.add(*p5, [2, 0]), (0, [2, NONE, NONE], [2, 0, 0], NONE), "a load alone")
+    t.same(calls.add(*p5, []), (0, *p5, NONE), "no ties")
+    t.same(calls.join(*p5, *p5), (0, [2, NONE, NONE], [2, 0, 0], NONE), "the same net")
+    t.same(calls.join(*net_of(3, []), *p5), (0, *p5, 0), "of the first net")
+    t.same(calls.add(*p5, [0, 1, 0, 0]), (5, *p5, None), "refused")
+    t.same(calls.join(*p5, *net_of(2, [])), (21, *p5, None), "refused")

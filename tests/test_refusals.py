@@ -101,8 +101,9 @@ def damaged_nets(t):
 
 def tiny(rng, name, n):
     """An input of n vertices without edges."""
-    given = {table: [0] * n for table in PRESENT[name].kinds} | {"edges": [], "edge_blocks": [], "bound": [0], "volume": [0]}
-    given |= {"parents": [ABSENT] * n, "other_parents": [ABSENT] * n, "limit": 3, "blocks": n, "bytes": [1] * (8 * n)}
+    given = {table: [0] * n for table in PRESENT[name].kinds} | {cell: [0] for cell in PRESENT[name].named("@")}
+    given |= {"edges": [], "edge_blocks": [], "limit": 3, "blocks": n, "bytes": [1] * (8 * n)}
+    given |= {"parents": [ABSENT] * n, "other_parents": [ABSENT] * n}
     return given | {table: [9] * len(end) for table, end in PRESENT[name].work_end(given).items()}
 
 

@@ -46,6 +46,20 @@ class Calls(unittest.TestCase):
         its.join(its)
         self.assertEqual((list(its.parents), list(its.weights)), ([2, ABSENT, ABSENT], [2, 0, 0]))
 
+    def test_where_the_forest_moved(self):
+        its = Net(5)
+        self.assertIsNone(its.add([]))
+        self.assertEqual(its.add([2, 3]), 2)
+        self.assertIsNone(its.add([3, 2]))
+        self.assertEqual(list(its.weights), [0, 0, 2, 0, 0])
+        self.assertEqual(its.add([4, 2]), 3)
+        self.assertEqual(its.add([2, 4, 0, 4, 0, 2]), 0)
+        self.assertEqual(its.join(net(5, [1, 3, 2, 4])), 1)
+        self.assertIsNone(its.join(its))
+        self.assertEqual(net(5, [3, 4]).join(its), 0)
+        self.refused(5, its.add, [0, 1, 2, 2])
+        self.assertEqual(its.add([0, 1]), 0)
+
     def test_save_and_read(self):
         its, other = net(3, [0, 2]), Net(3)
         saved = its.save()

@@ -1,5 +1,6 @@
-"""Document 01, The calls and Refused. Each call takes its tables as lists and answers a tuple: the number (0 if accepted), then the
-tables that it was lent to write, as they are afterwards. No list that is given is changed."""
+"""Document 01, The calls and Refused; document 02, Paper 2. Each call takes its tables as lists and answers a tuple: the number (0 if
+accepted), then the tables that it was lent to write, as they are afterwards, then its other answers, None if refused. No list that is
+given is changed."""
 
 from .forest import ABSENT, links, loads_of, parents_of, reaches, ties_of
 
@@ -82,6 +83,14 @@ def start(parents, loads):
     return 0, [ABSENT] * len(parents), [0] * len(parents)
 
 
+# Where the forest moved
+
+def moved(before, after):
+    """Document 02, Paper 2, of a net's parents before and after: the lowest rank whose parent is now another, or absent, which stands for
+    "none moved", if all are as before. A load alone that rises moves nothing."""
+    return min((rank for rank in range(len(before)) if after[rank] != before[rank]), default=ABSENT)
+
+
 # Add
 
 def add_refusal(parents, loads, flat):
@@ -102,9 +111,10 @@ def add_refusal(parents, loads, flat):
 def add(parents, loads, flat):
     number = add_refusal(parents, loads, flat)
     if number:
-        return number, parents, loads
+        return number, parents, loads, None
     n, ties = len(parents), ties_of(flat)
-    return 0, parents_of(n, links(parents) + ties), [a + b for a, b in zip(loads, loads_of(n, ties))]
+    after = parents_of(n, links(parents) + ties)
+    return 0, after, [a + b for a, b in zip(loads, loads_of(n, ties))], moved(parents, after)
 
 
 # Join
@@ -126,8 +136,9 @@ def join_refusal(parents, loads, parents2, loads2):
 def join(parents, loads, parents2, loads2):
     number = join_refusal(parents, loads, parents2, loads2)
     if number:
-        return number, parents, loads
-    return 0, parents_of(len(parents), links(parents) + links(parents2)), [a + b for a, b in zip(loads, loads2)]
+        return number, parents, loads, None
+    after = parents_of(len(parents), links(parents) + links(parents2))
+    return 0, after, [a + b for a, b in zip(loads, loads2)], moved(parents, after)
 
 
 # Files
@@ -311,8 +322,8 @@ def report_refusal(parents, loads, limit, k, flat, tables):
 
 
 def report(parents, loads, limit, k, flat, *tables):
-    """The tables: carried load, top, block, block loads, tie blocks, reach, block count, and the two comparison tables. The answer
-    has bound and volume behind them, None if refused."""
+    """The tables: carried load, top, block, block loads, tie blocks, reach, block count, and the two comparison tables. Behind them
+    bound and volume are answered."""
     number = report_refusal(parents, loads, limit, k, flat, tables)
     n, ties = len(parents), ties_of(flat)
     if number == 23:

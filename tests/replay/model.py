@@ -65,11 +65,12 @@ class Model:
         return max(1, len(self.nets[net][0]))
 
     def worked(self, lengths, outcome, old, lent):
-        """A call with work tables: of another length than it needs they are 2, if nothing before 2 applies; else they end as zeros."""
-        number, *after = outcome
-        wrong = any(len(table) != length for table, length in zip(lent, lengths))
-        if number != 1 and wrong:
-            return 2, old, lent
+        """A call with work tables: of another length than it needs they are 2, if nothing before 2 applies; else they end as zeros. The
+        cell that it is lent holds 7 before."""
+        number, *after, moved = outcome
+        if number != 1 and any(len(table) != length for table, length in zip(lent, lengths)):
+            number, after = 2, old
+        self.figures = f" {7 if number else moved}"
         return number, after, lent if number else [[0] * len(table) for table in lent]
 
     def start(self, net):

@@ -116,10 +116,12 @@ static void add(int net)
 {
     Table *p = &parents[net], *w = &weights[net], list = edges(vertices(net));
     Table ends = lent(p->length), jump = lent(p->length), lower = lent(niqastul_add_lower(p->length, list.length));
+    uint32_t moved = 7;
     latest[net] = list;
     printf("add %d %u", net, niqastul_add(p->entry, p->length, w->entry, w->length, list.entry, list.length,
-        ends.entry, ends.length, jump.entry, jump.length, lower.entry, lower.length));
+        ends.entry, ends.length, jump.entry, jump.length, lower.entry, lower.length, &moved));
     print(&ends), print(&jump), print(&lower);
+    printf(" %u", moved);
 }
 
 static void join(int net, int other)
@@ -127,9 +129,11 @@ static void join(int net, int other)
     Table *p = &parents[net], *w = &weights[net], *q = &parents[other], *v = &weights[other];
     Table ends = lent(p->length), jump = lent(p->length);
     Table lower = lent(p->length + q->length > ROOM ? ROOM : niqastul_join_lower(p->length, q->length));
+    uint32_t moved = 7;
     printf("join %d %d %u", net, other, niqastul_join(p->entry, p->length, w->entry, w->length, q->entry, q->length, v->entry, v->length,
-        ends.entry, ends.length, jump.entry, jump.length, lower.entry, lower.length));
+        ends.entry, ends.length, jump.entry, jump.length, lower.entry, lower.length, &moved));
     print(&ends), print(&jump), print(&lower);
+    printf(" %u", moved);
 }
 
 static void save(int net, int file)

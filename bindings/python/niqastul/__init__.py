@@ -2,7 +2,7 @@
 
     net = Net(vertices)                 a graph of so many vertices, 0 to vertices-1 in an elimination order, with no edges
     net.add([0, 1, 1, 2])               add the edges 0-1 and 1-2
-    net.join(other)                     add all edges of another net
+    net.join(other)                     add all edges of another net; both answer the lowest rank whose parent is now another, or None
     net.save(), net.read(data)          the net as bytes, and back
     net.parents, net.weights            the elimination forest, ABSENT for no parent; the edges by their lower end
     net.divide(limit, blocks)           the forest cut into groups that carry at most the limit, and packed into blocks
@@ -47,15 +47,21 @@ class Net:
         call("start", self.parents, self.weights)
 
     def add(self, edges):
-        """Adds edges, as a whole or not at all."""
-        n, edges = len(self.parents), table(edges)
-        call("add", self.parents, self.weights, edges, zeros(n), zeros(n), zeros(n + len(edges) // 2))
+        """Adds edges, as a whole or not at all. Answers the lowest rank whose parent is now another: who keeps a copy of the parents
+        rereads them from there on. None if none moved; a weight alone that rises moves nothing."""
+        edges = table(edges)
+        return self._grow("add", [edges], len(edges) // 2)
 
     def join(self, other):
-        """Adds all edges of another net, which stays as it is."""
-        n, m = len(self.parents), len(other.parents)
+        """Adds all edges of another net, which stays as it is; answers what add does."""
         lent = [array("I", part) if other is self else table(part) for part in (other.parents, other.weights)]
-        call("join", self.parents, self.weights, *lent, zeros(n), zeros(n), zeros(n + m))
+        return self._grow("join", lent, len(other.parents))
+
+    def _grow(self, name, lent, more):
+        """A call with work tables, the last of which is longer than the net by so many entries; answers where the forest moved."""
+        n, moved = len(self.parents), ctypes.c_uint32()
+        call(name, self.parents, self.weights, *lent, zeros(n), zeros(n), zeros(n + more), moved)
+        return None if moved.value == ABSENT else moved.value
 
     def save(self):
         """The net as bytes: for each vertex its parent and its weight, little-endian 32-bit numbers."""

@@ -6,7 +6,7 @@ import sys
 from . import Refused, files, links, neighbours, picture, split, together
 from .progress import Progress
 
-ABOUT = "Nets as files: grown, joined, split into blocks, laid together again, drawn, and asked for neighbours."
+ABOUT = "Nets as files: grown, added to, joined, split into blocks, laid together again, drawn, and asked for neighbours."
 
 FORMATS = """files, little-endian 32-bit numbers without a header:
   marks.ord   the order: mark numbers, the first to be eliminated first
@@ -21,7 +21,14 @@ What is refused or fails changes no file; a file or folder that is there is repl
 
 GROW = "grow the net of ties and write its link file"
 
-JOIN = "join two nets and write the link file of the ties of both"
+MOVED = """Prints `moved R`, where R is the lowest rank whose parent is another than in {}: who has read that file rereads the
+parents from there on. Or `none moved`; a load alone that rises moves nothing. out.link may be that file."""
+
+ADD = """add ties to a net and write the link file of all its ties
+""" + MOVED.format("net.link")
+
+JOIN = """join two nets and write the link file of the ties of both
+""" + MOVED.format("a.link")
 
 SPLIT = """divide a net and write its blocks as files
 DIR is made, or is empty, or holds an earlier split, which is replaced whole. In it are
@@ -46,6 +53,7 @@ A line for each MARK, a mark number: the mark, then the other mark of each of it
 # `[name]` may be left out; of `name..` there are one or more, and they are vertices
 COMMANDS = (
     (links.grow, "marks.ord ties.rec net.link", GROW),
+    (links.add, "marks.ord net.link ties.rec out.link", ADD),
     (links.join, "a.link b.link out.link", JOIN),
     (split.split, "marks.ord ties.rec want.rec DIR", SPLIT),
     (together.together, "marks.ord DIR net.link", TOGETHER),

@@ -48,7 +48,7 @@ def words(lent):
     """What a number, a cell or a table is passed as."""
     if isinstance(lent, int):
         return [ctypes.c_uint32(lent)]
-    if isinstance(lent, ctypes.c_uint64):
+    if isinstance(lent, (ctypes.c_uint32, ctypes.c_uint64)):
         return [ctypes.byref(lent)]
     return [ctypes.byref(ctypes.c_char.from_buffer(lent)) if lent else None, ctypes.c_size_t(len(lent))]
 
@@ -65,6 +65,6 @@ def library():
     """Loaded at the first call, so that help and what needs no library do without."""
     built = pathlib.Path(__file__).resolve().parents[3] / "target" / "lib" / "libniqastul.so"
     try:
-        return ctypes.CDLL(os.environ.get("NIQASTUL_LIBRARY") or (str(built) if built.exists() else "libniqastul.so.0.2"))
+        return ctypes.CDLL(os.environ.get("NIQASTUL_LIBRARY") or (str(built) if built.exists() else "libniqastul.so.0.3"))
     except OSError as error:
         raise OSError(f"{error}; `make` builds the library, NIQASTUL_LIBRARY names one elsewhere") from error

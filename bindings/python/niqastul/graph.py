@@ -35,18 +35,13 @@ def grown(progress, marks, ties, want=None):
     return Graph(order, ties, edges, net)
 
 
-def order_of_files(marks, ties, want=None):
-    """The order, once the bytes of all files are whole records: 1, 6, 3."""
+def order_of_files(marks, ties=b"", want=None, link=None):
+    """The order, once the bytes of all files are whole records, and as many as there have to be: 1, 6, 3."""
     Net(len(marks) // 4)
     files.whole(marks, 4)
     files.whole(ties, 8)
-    if want is not None and len(want) != 8:
+    if want is not None and len(want) != 8 or link is not None and len(link) != 2 * len(marks):
         raise Refused(6)
-    return ordered(marks)
-
-
-def ordered(marks):
-    """The order in the bytes of whole records: 3."""
     order = files.numbers(marks)
     relabel(order, [])
     return order

@@ -1,10 +1,20 @@
-"""Link files grown from edges, and joined."""
+"""Link files grown from edges, added to, and joined."""
 
-from . import Net, Refused, files, graph
+from . import Net, Refused, files, graph, relabel
 
 
 def grow(progress, marks, ties, out):
     files.replace(out, graph.read(progress, marks, ties).net.save())
+
+
+def add(progress, marks, link, ties, out):
+    """1, 6, 3, 4 or 5 of a tie, 7, 20 of the link file, then 20 with the ties."""
+    marks, link, ties = (files.content(path) for path in (marks, link, ties))
+    order = graph.order_of_files(marks, ties, link=link)
+    progress.at("adding the ties")
+    edges, net = relabel(order, files.numbers(ties)), Net(len(order))
+    net.read(link)
+    write_moved(out, net, net.add(edges))
 
 
 def join(progress, one, other, out):
@@ -16,8 +26,13 @@ def join(progress, one, other, out):
     nets[0].join(nets[1])
     read_both(nets, data)
     progress.at("joining")
-    nets[0].join(nets[1])
-    files.replace(out, nets[0].save())
+    write_moved(out, nets[0], nets[0].join(nets[1]))
+
+
+def write_moved(out, net, moved):
+    """Writes the link file of a net, then prints where its forest moved."""
+    files.replace(out, net.save())
+    print("none moved" if moved is None else f"moved {moved}")
 
 
 def read_both(nets, data):

@@ -3,28 +3,20 @@
 import json
 import os
 
-from . import ABSENT, Net, Refused, files, graph, relabel, split
+from . import ABSENT, Net, files, graph, relabel, split
 
 
 def together(progress, marks, folder, link):
     """Grows each block's file by itself, joins the nets, and prints how they and the summary stand to a link file; answers whether all
     is as it was split."""
-    order, wanted = read(marks, link)
+    marks, wanted = files.content(marks), files.content(link)
+    order = graph.order_of_files(marks, link=wanted)
     summary, found = summary_of(folder), []
     laid = joined(grown(progress, order, folder, summary, found)).save()
     found += [f"{name} is not in the summary" for name in others(folder, len(summary))]
     found += [] if laid == wanted else [difference(order, laid, wanted)]
     print(*found, verdict(link, laid == wanted, found), sep="\n")
     return not found
-
-
-def read(marks, link):
-    """The order, and the bytes of a link file of as many records: 1, 6, 3."""
-    marks, wanted = files.content(marks), files.content(link)
-    Net(len(marks) // 4)
-    if len(files.whole(marks, 4)) // 4 * 8 != len(wanted):
-        raise Refused(6)
-    return graph.ordered(marks), wanted
 
 
 def summary_of(folder):

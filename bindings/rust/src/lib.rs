@@ -7,10 +7,12 @@
 //!
 //! ```
 //! let mut net = niqastul::Net::new(4)?;
-//! net.add(&[0, 1, 0, 2, 0, 3])?;
+//! net.add(&[0, 1, 0, 2])?;
+//! assert_eq!(net.add(&[0, 3])?, Some(2)); // the lowest rank whose parent is now another
 //! assert_eq!(net.parents(), [1, 2, 3, niqastul::ABSENT]);
+//! assert_eq!(net.add(&[1, 2])?, None); // none moved
 //! assert_eq!(net.add(&[0, 4]), Err(niqastul::Refusal::BadVertex));
-//! assert_eq!(net.divide(3, 2)?.block, [0, 0, 0, 0]);
+//! assert_eq!(net.divide(3, 2)?.block, [0, 1, 1, 1]);
 //! assert_eq!(niqastul::Index::new(4, &[0, 1, 2, 0, 0, 3])?.neighbours(0)?, [1, 2, 3]);
 //! # Ok::<(), niqastul::Refusal>(())
 //! ```
@@ -123,14 +125,15 @@ impl Net {
         &self.weights
     }
 
-    /// Adds edges, two ranks to an edge, as a whole or not at all.
-    pub fn add(&mut self, edges: &[u32]) -> Result<(), Refusal> {
+    /// Adds edges, two ranks to an edge, as a whole or not at all. Answers the lowest rank whose parent is now another: who keeps a
+    /// copy of the parents rereads them from there on. `None` if none moved; a weight alone that rises moves nothing.
+    pub fn add(&mut self, edges: &[u32]) -> Result<Option<u32>, Refusal> {
         self.work.resize(self.parents.len(), edges.len() / 2);
         tables::add(&mut self.parents, &mut self.weights, edges, &mut self.work)
     }
 
-    /// Adds all edges of another net.
-    pub fn join(&mut self, other: &Net) -> Result<(), Refusal> {
+    /// Adds all edges of another net; answers what [`Net::add`] does.
+    pub fn join(&mut self, other: &Net) -> Result<Option<u32>, Refusal> {
         self.work.resize(self.parents.len(), other.parents.len());
         tables::join(&mut self.parents, &mut self.weights, &other.parents, &other.weights, &mut self.work)
     }

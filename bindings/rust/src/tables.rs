@@ -1,6 +1,6 @@
 //! The library's calls over tables that the caller lends, as include/niqastul.h describes them.
 
-use crate::Refusal;
+use crate::{Refusal, ABSENT};
 
 mod library {
     extern "C" {
@@ -18,6 +18,7 @@ mod library {
             ends: *mut u32, ends_length: usize,
             jump: *mut u32, jump_length: usize,
             lower: *mut u32, lower_length: usize,
+            moved: *mut u32,
         ) -> u32;
         pub fn niqastul_join(
             parents: *mut u32, parents_length: usize,
@@ -27,6 +28,7 @@ mod library {
             ends: *mut u32, ends_length: usize,
             jump: *mut u32, jump_length: usize,
             lower: *mut u32, lower_length: usize,
+            moved: *mut u32,
         ) -> u32;
         pub fn niqastul_save(
             parents: *const u32, parents_length: usize,
@@ -92,6 +94,11 @@ fn answer(number: u32) -> Result<(), Refusal> {
     Err(*Refusal::ALL.iter().find(|refusal| refusal.number() == number).expect("a refusal of document 01"))
 }
 
+/// What the cell of an accepted [`add`] or [`join`] tells: where the forest moved.
+fn rank(moved: u32) -> Option<u32> {
+    (moved != ABSENT).then_some(moved)
+}
+
 /// Work tables of [`add`], [`join`] and [`report`].
 #[derive(Clone, Debug, Default)]
 pub struct Work {
@@ -129,8 +136,9 @@ pub fn start(parents: &mut [u32], weights: &mut [u32]) -> Result<(), Refusal> {
     answer(unsafe { library::niqastul_start(parents.as_mut_ptr(), parents.len(), weights.as_mut_ptr(), weights.len()) })
 }
 
-/// Adds edges to a net, as a whole or not at all.
-pub fn add(parents: &mut [u32], weights: &mut [u32], edges: &[u32], work: &mut Work) -> Result<(), Refusal> {
+/// Adds edges to a net, as a whole or not at all; answers the lowest rank whose parent is now another, `None` if none moved.
+pub fn add(parents: &mut [u32], weights: &mut [u32], edges: &[u32], work: &mut Work) -> Result<Option<u32>, Refusal> {
+    let mut moved = ABSENT;
     answer(unsafe {
         library::niqastul_add(
             parents.as_mut_ptr(), parents.len(),
@@ -139,18 +147,21 @@ pub fn add(parents: &mut [u32], weights: &mut [u32], edges: &[u32], work: &mut W
             work.ends.as_mut_ptr(), work.ends.len(),
             work.jump.as_mut_ptr(), work.jump.len(),
             work.lower.as_mut_ptr(), work.lower.len(),
+            &mut moved,
         )
-    })
+    })?;
+    Ok(rank(moved))
 }
 
-/// Joins a second net into a first.
+/// Joins a second net into a first; answers what [`add`] does, of the first.
 pub fn join(
     parents: &mut [u32],
     weights: &mut [u32],
     other_parents: &[u32],
     other_weights: &[u32],
     work: &mut Work,
-) -> Result<(), Refusal> {
+) -> Result<Option<u32>, Refusal> {
+    let mut moved = ABSENT;
     answer(unsafe {
         library::niqastul_join(
             parents.as_mut_ptr(), parents.len(),
@@ -160,8 +171,10 @@ pub fn join(
             work.ends.as_mut_ptr(), work.ends.len(),
             work.jump.as_mut_ptr(), work.jump.len(),
             work.lower.as_mut_ptr(), work.lower.len(),
+            &mut moved,
         )
-    })
+    })?;
+    Ok(rank(moved))
 }
 
 /// Writes a net as bytes, 8 to a vertex.

@@ -4,12 +4,12 @@
 use crate::{Net, Refusal};
 
 impl Net {
-    /// Adds edges as [`Net::add`] does, in up to so many threads: the same tables, or the same refusal and the net as it was. Each
-    /// thread has tables of its own, as long as the net's. A list of fewer than two edges to a vertex is added in one thread, because
-    /// joining the parts would take longer than growing them.
+    /// Adds edges as [`Net::add`] does, in up to so many threads: the same answer and the same tables, or the same refusal and the net
+    /// as it was. Each thread has tables of its own, as long as the net's. A list of fewer than two edges to a vertex is added in one
+    /// thread, because joining the parts would take longer than growing them.
     ///
     /// Panics if the system cannot start a thread; the net is then as it was.
-    pub fn add_in_threads(&mut self, edges: &[u32], threads: usize) -> Result<(), Refusal> {
+    pub fn add_in_threads(&mut self, edges: &[u32], threads: usize) -> Result<Option<u32>, Refusal> {
         // no part has fewer edges than the net has vertices
         let threads = threads.min(edges.len() / 2 / self.parents.len().max(1));
         if threads < 2 {
@@ -18,9 +18,9 @@ impl Net {
         // a copy, so that the net is as it was if a part is refused; work tables are only room, and go along
         let copy = Net { parents: self.parents.clone(), weights: self.weights.clone(), work: std::mem::take(&mut self.work) };
         match grow(copy, edges, threads) {
-            Ok(net) => {
+            Ok((net, moved)) => {
                 *self = net;
-                Ok(())
+                Ok(moved)
             }
             // a part or a join is refused exactly if the one call is, but perhaps for another reason
             Err(_) => self.add(edges),
@@ -28,11 +28,12 @@ impl Net {
     }
 }
 
-/// A net with edges added: those of the right part are grown in another thread, from no edges, and joined to the rest.
-fn grow(mut net: Net, edges: &[u32], threads: usize) -> Result<Net, Refusal> {
+/// A net with edges added, and where its forest moved: those of the right part are grown in another thread, from no edges, and joined
+/// to the rest. Since parents only fall, the lowest of the answers that the net itself gets is the lowest rank that moved in all.
+fn grow(mut net: Net, edges: &[u32], threads: usize) -> Result<(Net, Option<u32>), Refusal> {
     if threads < 2 {
-        net.add(edges)?;
-        return Ok(net);
+        let moved = net.add(edges)?;
+        return Ok((net, moved));
     }
     let others = threads / 2;
     let (left, right) = edges.split_at(edges.len() - edges.len() / 2 / threads * others * 2);
@@ -41,7 +42,8 @@ fn grow(mut net: Net, edges: &[u32], threads: usize) -> Result<Net, Refusal> {
         let right = scope.spawn(|| grow(empty, right, others));
         (grow(net, left, threads - others), right.join().unwrap())
     });
-    let mut whole = left?;
-    whole.join(&right?)?;
-    Ok(whole)
+    let (mut whole, moved) = left?;
+    let (right, _) = right?;
+    let joined = whole.join(&right)?;
+    Ok((whole, moved.into_iter().chain(joined).min()))
 }

@@ -39,6 +39,26 @@ fn added_and_joined() {
 }
 
 #[test]
+fn where_the_forest_moved() {
+    let mut its = Net::new(5).unwrap();
+    assert_eq!(its.add(&[]), Ok(None));
+    assert_eq!(its.add(&[2, 3]), Ok(Some(2)));
+    assert_eq!(its.add(&[3, 2]), Ok(None));
+    assert_eq!(its.weights(), [0, 0, 2, 0, 0]);
+    // the edge goes up to vertex 3, which had no parent
+    assert_eq!(its.add(&[4, 2]), Ok(Some(3)));
+    assert_eq!(its.add(&[2, 4, 0, 4, 0, 2]), Ok(Some(0)));
+    assert_eq!(its.parents(), [2, ABSENT, 3, 4, ABSENT]);
+    assert_eq!(its.join(&net(5, &[1, 3, 2, 4])), Ok(Some(1)));
+    assert_eq!(its.join(&its.clone()), Ok(None));
+    // of the first net, whatever the second one has
+    assert_eq!(net(5, &[3, 4]).join(&its), Ok(Some(0)));
+    assert_eq!(its.join(&net(5, &[3, 4])), Ok(None));
+    assert_eq!(its.add(&[0, 1, 2, 2]), Err(Refusal::Loop));
+    assert_eq!(its.add(&[0, 1]), Ok(Some(0)));
+}
+
+#[test]
 fn saved_and_read() {
     let net = net(3, &[0, 2]);
     let saved = net.save().unwrap();
@@ -180,7 +200,7 @@ fn lent_tables() {
     assert_eq!(tables::add(&mut parents, &mut weights, &[0, 1], &mut work), Err(Refusal::Full));
     assert_eq!(tables::add(&mut parents, &mut weights[..1], &[0, 1], &mut work), Err(Refusal::WrongLength));
     weights[0] -= 1;
-    assert_eq!(tables::add(&mut parents, &mut weights, &[0, 1], &mut work), Ok(()));
+    assert_eq!(tables::add(&mut parents, &mut weights, &[0, 1], &mut work), Ok(None));
     assert_eq!((parents, weights), ([1, ABSENT], [16_000_000, 0]));
     work.resize(2, 2);
     assert_eq!(tables::join(&mut parents, &mut weights, &[1, ABSENT], &[1, 0], &mut work), Err(Refusal::Full));
@@ -190,4 +210,7 @@ fn lent_tables() {
     assert_eq!(tables::join(&mut parents, &mut weights, &unlike, &none, &mut work), Err(Refusal::WrongLength));
     work.resize(2, 3);
     assert_eq!(tables::join(&mut parents, &mut weights, &unlike, &none, &mut work), Err(Refusal::UnlikeCounts));
+    work.resize(2, 2);
+    parents[0] = ABSENT;
+    assert_eq!(tables::join(&mut parents, &mut weights, &[1, ABSENT], &[0, 0], &mut work), Ok(Some(0)));
 }

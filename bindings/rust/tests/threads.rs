@@ -36,10 +36,14 @@ fn net(vertices: usize, edges: &[u32]) -> Net {
     net
 }
 
-/// The list added in so many threads does what it does in one: its answer, and the net afterwards.
-fn same_as_one(before: &Net, edges: &[u32]) -> Result<(), Refusal> {
+/// The list added in so many threads does what it does in one: its answer, and the net afterwards. The answer is the lowest rank whose
+/// parent is another than before.
+fn same_as_one(before: &Net, edges: &[u32]) -> Result<Option<u32>, Refusal> {
     let mut one = before.clone();
     let answer = one.add(edges);
+    let mut ranks = 0..before.parents().len();
+    let moved = ranks.find(|&x| one.parents()[x] != before.parents()[x]).map(|x| x as u32);
+    assert_eq!(answer.unwrap_or(None), moved);
     for threads in THREADS {
         let mut several = before.clone();
         assert_eq!(several.add_in_threads(edges, threads), answer, "{threads} threads");
@@ -51,22 +55,44 @@ fn same_as_one(before: &Net, edges: &[u32]) -> Result<(), Refusal> {
 #[test]
 fn many_nets() {
     let mut random = Random(1);
+    let mut met = [0; 3];
     for _ in 0..200 {
         let vertices = 2 + random.below(20);
         let (first, second) = (random.below(30), random.below(300));
         let before = net(vertices, &random.edges(vertices, first));
-        assert_eq!(same_as_one(&before, &random.edges(vertices, second)), Ok(()));
+        match same_as_one(&before, &random.edges(vertices, second)).unwrap() {
+            None => met[0] += 1,
+            Some(0) => met[1] += 1,
+            Some(_) => met[2] += 1,
+        }
+    }
+    assert!(met.iter().all(|&times| times > 20), "none, the first and another have to move: {met:?}");
+}
+
+#[test]
+fn moved_as_one() {
+    // the line of the net itself tells: what moved in a part that another thread grew from nothing does not count
+    let (left, right): (Vec<u32>, Vec<u32>) = ([3, 4].repeat(20), [1, 2].repeat(20));
+    let lists = [[&left[..], &right], [&right, &left]].map(|parts| parts.concat());
+    for edges in lists {
+        assert_eq!(same_as_one(&net(5, &[]), &edges), Ok(Some(1)));
+        assert_eq!(same_as_one(&net(5, &[1, 2]), &edges), Ok(Some(3)));
+        assert_eq!(same_as_one(&net(5, &[3, 4]), &edges), Ok(Some(1)));
+        assert_eq!(same_as_one(&net(5, &[1, 2, 3, 4]), &edges), Ok(None));
+        // vertex 1 has another parent then, and vertex 0 the same
+        assert_eq!(same_as_one(&net(5, &[0, 1, 1, 4]), &edges), Ok(Some(1)));
     }
 }
 
 #[test]
 fn few_edges() {
-    assert_eq!(same_as_one(&net(1, &[]), &[]), Ok(()));
-    assert_eq!(same_as_one(&net(3, &[0, 2]), &[]), Ok(()));
-    assert_eq!(same_as_one(&net(3, &[0, 2]), &[0, 1]), Ok(()));
-    assert_eq!(same_as_one(&net(3, &[]), &[0, 2, 1, 0]), Ok(()));
-    assert_eq!(same_as_one(&net(3, &[]), &[0, 2, 1, 0, 2, 1]), Ok(()));
-    assert_eq!(same_as_one(&net(2, &[]), &[0, 1, 1, 0, 0, 1, 0, 1]), Ok(()));
+    assert_eq!(same_as_one(&net(1, &[]), &[]), Ok(None));
+    assert_eq!(same_as_one(&net(3, &[0, 2]), &[]), Ok(None));
+    assert_eq!(same_as_one(&net(3, &[0, 2]), &[0, 1]), Ok(Some(0)));
+    assert_eq!(same_as_one(&net(3, &[0, 2]), &[2, 1]), Ok(Some(1)));
+    assert_eq!(same_as_one(&net(3, &[]), &[0, 2, 1, 0]), Ok(Some(0)));
+    assert_eq!(same_as_one(&net(3, &[]), &[0, 2, 1, 0, 2, 1]), Ok(Some(0)));
+    assert_eq!(same_as_one(&net(2, &[]), &[0, 1, 1, 0, 0, 1, 0, 1]), Ok(Some(0)));
 }
 
 #[test]
@@ -111,7 +137,7 @@ fn nearly_full(less: usize) -> Net {
 #[test]
 fn full_as_one() {
     let edges = [0, 1].repeat(10);
-    assert_eq!(same_as_one(&nearly_full(10), &edges), Ok(()));
+    assert_eq!(same_as_one(&nearly_full(10), &edges), Ok(Some(0)));
     assert_eq!(same_as_one(&nearly_full(9), &edges), Err(Refusal::Full));
     assert_eq!(same_as_one(&nearly_full(0), &edges), Err(Refusal::Full));
     assert_eq!(same_as_one(&nearly_full(0), &[&edges[..], &[1, 1]].concat()), Err(Refusal::Loop));

@@ -11,6 +11,11 @@ use Rattle.game.specs.Net.{net, weights}
 use Rattle.game.proofs.Weights.{charges-count}
 use Rattle.game.proofs.Sound.{true-sound}
 use Rattle.game.proofs.Tables.{sum-entry}
+use Rattle.game.proofs.Forest.{forest-length}
+use Rattle.moving.specs.declared.Moved.{Moved}
+use Rattle.moving.specs.Moved.{movedFrom, moved}
+use Rattle.moving.specs.Steps.{movedAt, Differ}
+use Rattle.moving.proofs.Differ.{differ-moved}
 use Rattle.bucket.specs.Ends.{tallied}
 use Rattle.bucket.proofs.Ends.{tally-weights}
 use Rattle.growth.specs.Work.{withWork, workOf, cleared}
@@ -43,3 +48,8 @@ module _ {p w e j l : List ℕ} {xs : List ℕ} (a : Addable (withWork (net p w)
   add-ends same (x, t) = ap₂ withWork
       (ap₂ net (x .grown) (t ∙ tally-weights (edges xs) w ∙ ap (λ (n : ℕ). zipWith _+_ w (weights n (edges xs))) (a .net .long)))
       (x .clear ∙ same-room _ _ _ _ _ _ same refl refl)
+
+  -- and what it answers is where the parents moved
+  pub add-moved : {e″ p′ e′ j′ l′ : List ℕ} {r : ℕ} {m : Moved} → Extends p xs e″ j l p′ e′ j′ l′ → Differ p p′ r → m ≡ movedAt r → m ≡ moved (net p w) (grown (net p w) (edges xs))
+  unfolding moved grown
+  add-moved x d is = is ∙ differ-moved (ap length (x .grown) ∙ forest-length _ _) (omega (arith, a .net .few)) d ∙ ap (movedFrom 0 p) (x .grown)

@@ -1,5 +1,6 @@
 -- "Add a tie list, as a whole or not at all." "Parents become those of the elimination game on the old links together with the new
--- ties .. Only ties raise loads in adding". The old net is any sound table, whether it came from edges or not.
+-- ties .. Only ties raise loads in adding". The old net is any sound table, whether it came from edges or not. Adding answers where the
+-- forest moved (document 02, Paper 2).
 -- Assumes nothing.
 use mathlib.Core.List.{List, [], _∷_, _++_, zipWith}
 use Prim.Native.Nat.{ℕ, _+_}
@@ -11,8 +12,10 @@ use Rattle.game.specs.Tree.{links}
 use Rattle.game.specs.Net.{Net, weights, total, charges}
 use Rattle.refusal.specs.Limits.{maxTotal}
 use Rattle.refusal.specs.Refusal.{given, first, badCount, wrongLength, odd, firstFault}
-use Rattle.refusal.specs.Outcome.{Done, done}
+use Rattle.refusal.specs.Outcome.{Outcome, decided}
 use Rattle.net.specs.Damage.{damaged}
+use Rattle.moving.specs.declared.Moved.{Moved}
+use Rattle.moving.specs.Moved.{moved}
 use Rattle.growth.specs.Work.{NetWithWork, badWork, cleared}
 
 -- a net with edges added
@@ -35,5 +38,7 @@ addRefusal g xs =
     ∷ given (ltb maxTotal (total (g .net) + charges (edges xs))) 20
     ∷ [])
 
-unfoldable pub addOutcome : NetWithWork → List ℕ → Done NetWithWork
-addOutcome g xs = done (addRefusal g xs) g (record { net = grown (g .net) (edges xs); work = cleared (g .work) })
+unfoldable pub addOutcome : NetWithWork → List ℕ → Outcome Moved NetWithWork
+addOutcome g xs =
+    let new : Net = grown (g .net) (edges xs) in
+    decided (addRefusal g xs) (moved (g .net) new) g (record { net = new; work = cleared (g .work) })

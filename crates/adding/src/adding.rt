@@ -1,6 +1,6 @@
 // Adding edges to a net. The tables are read first, then the list for its faults; a long list is counted by upper end in the same sweep.
+use moving::GrowthAnswer;
 use net::Net;
-use refusal::Answer;
 ghost use mathlib.Core.Path.{_≡_};
 ghost use mathlib.Core.Bool.{true, false};
 ghost use Prim.Native.Nat.{_^_, _<_};
@@ -8,7 +8,7 @@ ghost use lib.ListN.{length};
 ghost use Rattle.game.specs.Edge.{edges as edgesOf};
 ghost use Rattle.game.specs.Net.{net};
 ghost use Rattle.growth.specs.Work.{withWork, workOf};
-ghost use Rattle.refusal.specs.Answer.{verdict};
+ghost use Rattle.moving.specs.Answer.{verdict};
 ghost use Rattle.refusal.specs.Outcome.{ended};
 ghost use Rattle.adding.specs.Add.{addOutcome};
 ghost use Rattle.adding.specs.Steps.{TablesRead, ListRead};
@@ -77,7 +77,7 @@ fn read_list(edges: &[u32], ends: &mut [u32], heavy: bool, counted: bool) -> u32
 
 // Adds a list of edges to a net, as a whole or not at all: the parents become those of the elimination game on the old links and the
 // new edges, and each edge raises the weight of its lower end. The work tables take n, n and n + m entries for n vertices and m
-// edges; they end as zeros.
+// edges; they end as zeros. Answers where the forest moved.
 pub fn add(
     parents: &mut [u32],
     weights: &mut [u32],
@@ -85,21 +85,22 @@ pub fn add(
     ends: &mut [u32],
     jump: &mut [u32],
     lower: &mut [u32],
-) -> Answer
+) -> GrowthAnswer
     ensures { λ r. ⌜
         ended (verdict r) (withWork (net (now (parents .exit)) (now (weights .exit))) (workOf (now (ends .exit)) (now (jump .exit)) (now (lower .exit))))
         ≡ addOutcome (withWork (net (now (parents .entry)) (now (weights .entry))) (workOf (now (ends .entry)) (now (jump .entry)) (now (lower .entry)))) (now (edges .entry)) ⌝ }
 {
     let found = read_tables(parents, weights, edges, ends, jump, lower);
     if found.code != 0 {
-        return Answer::Refused(found.code);
+        return GrowthAnswer::Refused(found.code);
     }
     let long = inserting::is_long(parents.len(), edges.len() / refusal::STRIDE);
     let counted = long & !found.heavy;
     let code = read_list(edges, ends, found.heavy, counted);
     if code != 0 {
-        return Answer::Refused(code);
+        return GrowthAnswer::Refused(code);
     }
-    inserting::extend(parents, weights, edges, ends, jump, lower, counted);
-    Answer::Accepted
+    let lowest = inserting::extend(parents, weights, edges, ends, jump, lower, counted);
+    let moved = moving::moved_at(lowest);
+    GrowthAnswer::Accepted(moved)
 }

@@ -21,7 +21,7 @@ use Rattle.game.proofs.Forest.{forest-length}
 use Rattle.refusal.specs.Limits.{maxVertices, maxTotal}
 use Rattle.refusal.specs.Refusal.{unless, firstFault}
 use Rattle.refusal.specs.Verdict.{isAccepted, judged}
-use Rattle.refusal.specs.Outcome.{done, decided}
+use Rattle.refusal.specs.Outcome.{decided}
 use Rattle.refusal.proofs.Fault.{proper-faultless}
 use Rattle.growth.specs.Work.{NetWithWork, withWork, badWork}
 use Rattle.starting.specs.Start.{startRefusal, startOutcome}
@@ -47,10 +47,10 @@ abbrev done-with : Net → Laid
 done-with of = record { accepted = true; net = of }
 
 -- a call that passes its tests, after calls that were accepted
-after-accepted : {A : Type 0} (b : Bool) (k : ℕ) (was new : A) (net : A → Net) → b ≡ true → k ≡ 0 → after b (done k was new) net ≡ done-with (net new)
+after-accepted : {X A : Type 0} (b : Bool) (k : ℕ) (values : X) (was new : A) (net : A → Net) → b ≡ true → k ≡ 0 → after b (decided k values was new) net ≡ done-with (net new)
 unfolding after decided judged unless isAccepted
-after-accepted b zero was new net e z = rw e refl
-after-accepted b (suc k) was new net e z = absurd (omega arith)
+after-accepted b zero values was new net e z = rw e refl
+after-accepted b (suc k) values was new net e z = absurd (omega arith)
 
 module _ {n : ℕ} (some : 0 < n) (few : n ≤ maxVertices) where
   vertices-of : (es : List Edge) → length (netOf n es .parents) ≡ n
@@ -64,7 +64,7 @@ module _ {n : ℕ} (some : 0 < n) (few : n ≤ maxVertices) where
   started-net : (tables : Net) → length (tables .parents) ≡ n → length (tables .weights) ≡ n → started tables ≡ done-with (netOf n [])
   unfolding started startOutcome
   started-net tables p w =
-      after-accepted true (startRefusal tables) tables _ (λ (net : Net). net) refl
+      after-accepted true (startRefusal tables) _ tables _ (λ (net : Net). net) refl
       (start-passes (record { some = omega (arith, p); few = omega (arith, p); long = w ∙ sym p }))
       ∙ ap (λ (m : ℕ). done-with (netOf m [])) p
 
@@ -73,7 +73,7 @@ module _ {n : ℕ} (some : 0 < n) (few : n ≤ maxVertices) where
   unfolding grownLot addOutcome
   lot-net {es} {lot} proper light of =
       ap (λ (s : Laid). after (s .accepted) (addOutcome (withWork (s .net) (lot .adding)) (lot .list)) (λ (g : NetWithWork). g .net)) (started-net (lot .tables) (of .parents) (of .weights))
-      ∙ after-accepted true (addRefusal (withWork (netOf n []) (lot .adding)) (lot .list)) (withWork (netOf n []) (lot .adding)) _ (λ (g : NetWithWork). g .net) refl (add-passes addable)
+      ∙ after-accepted true (addRefusal (withWork (netOf n []) (lot .adding)) (lot .list)) _ (withWork (netOf n []) (lot .adding)) _ (λ (g : NetWithWork). g .net) refl (add-passes addable)
       ∙ ap done-with (ap (grown (netOf n [])) (of .reads) ∙ grown-net es (omega (arith, few)) (proper-nil n))
     where
       blank : length (netOf n [] .parents) ≡ n
@@ -110,7 +110,7 @@ module _ {n : ℕ} (some : 0 < n) (few : n ≤ maxVertices) where
         light = omega (arith, total-of all, total-of own);
       } in (
         ap₂ (λ (x y : Laid). after (x .accepted && y .accepted) (joinOutcome (withWork (x .net) (lot .joining)) (y .net)) (λ (g : NetWithWork). g .net)) one other
-            ∙ after-accepted true (joinRefusal (withWork (netOf n (together lists)) (lot .joining)) (netOf n es)) (withWork (netOf n (together lists)) (lot .joining)) _ (λ (g : NetWithWork). g .net) refl (join-passes joinable)
+            ∙ after-accepted true (joinRefusal (withWork (netOf n (together lists)) (lot .joining)) (netOf n es)) _ (withWork (netOf n (together lists)) (lot .joining)) _ (λ (g : NetWithWork). g .net) refl (join-passes joinable)
             ∙ ap done-with (joined-net es (omega (arith, few)) all own),
         proper-append all own,
       )

@@ -15,7 +15,7 @@ use Rattle.game.specs.Edge.{Edge, edges}
 use Rattle.game.specs.Net.{Net, charges}
 use Rattle.refusal.specs.Refusal.{odd}
 use Rattle.refusal.specs.Verdict.{isAccepted}
-use Rattle.refusal.specs.Outcome.{Done}
+use Rattle.refusal.specs.Outcome.{Outcome}
 use Rattle.growth.specs.Work.{Work, NetWithWork, withWork, badWork}
 use Rattle.starting.specs.Start.{startOutcome}
 use Rattle.adding.specs.Add.{addOutcome}
@@ -53,7 +53,7 @@ pub record Laid : Type 0 where
   pub net : Net
 
 -- a call's outcome after what was laid: it counts as accepted if all before it were too
-unfoldable pub after : {A : Type 0} → (accepted : Bool) → Done A → (A → Net) → Laid
+unfoldable pub after : {X A : Type 0} → (accepted : Bool) → Outcome X A → (A → Net) → Laid
 after accepted o net = record { accepted = accepted && isAccepted (o .verdict); net = net (o .tables) }
 
 unfoldable pub started : Net → Laid

@@ -9,17 +9,20 @@ use Rattle.report.specs.declared.ReportAnswer.{ReportAnswer}
 use Rattle.report.specs.declared.ReportAnswer.the-variants.{Accepted, Refused}
 use Rattle.report.specs.Answer.{verdict}
 use Rattle.report.specs.Report.{Lent}
-use Rattle.exports.specs.Returned.{reported, told, handedTotals}
+use Rattle.exports.specs.Returned.{filled, told, handedCells, handedTotals}
+
+abbrev own : Totals → Totals
+own totals = totals
 
 module _ {t : Lent} {o : Outcome Totals Lent} (was : Totals) (r : ReportAnswer) (is : ended (verdict r) t ≡ o) where
-  handed-as : reported (number (verdict r)) (told (verdict r) was) t ≡ handedTotals was o
-  unfolding handedTotals
+  handed-as : filled (number (verdict r)) (told own (verdict r) was) t ≡ handedTotals was o
+  unfolding handedCells
   handed-as = ap (handedTotals was) is
 
-  pub handed-accepted : {totals : Totals} → r ≡ Accepted totals → reported 0 totals t ≡ handedTotals was o
+  pub handed-accepted : {totals : Totals} → r ≡ Accepted totals → filled 0 totals t ≡ handedTotals was o
   unfolding verdict number told
-  handed-accepted e = sym (ap (λ (x : ReportAnswer). reported (number (verdict x)) (told (verdict x) was) t) e) ∙ handed-as
+  handed-accepted e = sym (ap (λ (x : ReportAnswer). filled (number (verdict x)) (told own (verdict x) was) t) e) ∙ handed-as
 
-  pub handed-refused : {k : ℕ} → r ≡ Refused k → reported k was t ≡ handedTotals was o
+  pub handed-refused : {k : ℕ} → r ≡ Refused k → filled k was t ≡ handedTotals was o
   unfolding verdict number told
-  handed-refused e = sym (ap (λ (x : ReportAnswer). reported (number (verdict x)) (told (verdict x) was) t) e) ∙ handed-as
+  handed-refused e = sym (ap (λ (x : ReportAnswer). filled (number (verdict x)) (told own (verdict x) was) t) e) ∙ handed-as

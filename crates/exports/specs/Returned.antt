@@ -1,9 +1,12 @@
--- An outcome as it crosses the boundary: the verdict as its number, 0 for accepted, beside the tables; the values of an accepted report go
--- to cells, which a refusal leaves as they were. No refusal has the number 0, so nothing is lost.
+-- An outcome as it crosses the boundary: the verdict as its number, 0 for accepted, beside the tables; the values of an accepted call, the
+-- totals of a report or where the forest moved, go to cells, which a refusal leaves as they were. No refusal has the number 0, so nothing
+-- is lost.
 -- Assumes nothing.
 use Prim.Native.Nat.{ℕ}
 use Rattle.refusal.specs.Verdict.{Verdict, accepted, refused, number}
 use Rattle.refusal.specs.Outcome.{Outcome, Done}
+use Rattle.moving.specs.declared.Moved.{Moved}
+use Rattle.moving.specs.Moved.{rankOf}
 use Rattle.cost.specs.declared.Totals.{Totals}
 
 pub record Returned (A : Type 0) : Type 0 where
@@ -17,19 +20,26 @@ returned k t = record { number = k; tables = t }
 unfoldable pub handed : {A : Type 0} → Done A → Returned A
 handed o = returned (number (o .verdict)) (o .tables)
 
--- the same with the cells for the totals of a report
-pub record Reported (A : Type 0) : Type 0 where
+-- the same with the cells for the values of an accepted call
+pub record Filled (C A : Type 0) : Type 0 where
   pub number : ℕ
-  pub cells : Totals
+  pub cells : C
   pub tables : A
 
-abbrev pub reported : {A : Type 0} → ℕ → Totals → A → Reported A
-reported k c t = record { number = k; cells = c; tables = t }
+abbrev pub filled : {C A : Type 0} → ℕ → C → A → Filled C A
+filled k c t = record { number = k; cells = c; tables = t }
 
--- the cells after a verdict
-unfoldable pub told : Verdict Totals → Totals → Totals
-told (accepted totals) was = totals
-told (refused k) was = was
+-- the cells after a verdict, by how they hold its values
+unfoldable pub told : {X C : Type 0} → (X → C) → Verdict X → C → C
+told hold (accepted values) was = hold values
+told hold (refused k) was = was
 
-unfoldable pub handedTotals : {A : Type 0} → Totals → Outcome Totals A → Reported A
-handedTotals was o = reported (number (o .verdict)) (told (o .verdict) was) (o .tables)
+unfoldable pub handedCells : {X C A : Type 0} → (X → C) → C → Outcome X A → Filled C A
+handedCells hold was o = filled (number (o .verdict)) (told hold (o .verdict) was) (o .tables)
+
+-- the two cells of a report hold its totals; the cell of an addition or a join holds a rank, `rankOf` where the forest moved
+abbrev pub handedTotals : {A : Type 0} → Totals → Outcome Totals A → Filled Totals A
+handedTotals was o = handedCells (λ (totals : Totals). totals) was o
+
+abbrev pub handedRank : {A : Type 0} → ℕ → Outcome Moved A → Filled ℕ A
+handedRank was o = handedCells rankOf was o

@@ -2,6 +2,7 @@
 // its answer as a number, 0 if it was accepted. A table passes as a pointer and a length. Nothing is checked at this boundary, so no
 // function here asks anything of its caller that its types do not say: tables are readable or writable over their length, and one
 // that is written overlaps no other.
+use moving::GrowthAnswer;
 use report::ReportAnswer;
 ghost use mathlib.Core.Path.{_≡_};
 ghost use Rattle.game.specs.Net.{net};
@@ -19,7 +20,10 @@ ghost use Rattle.querying.specs.Query.{place, queryPlace};
 ghost use Rattle.writing.specs.Written.{written};
 ghost use Rattle.report.specs.Report.{lent, reportOutcome};
 ghost use Rattle.cost.specs.Figures.{totals};
-ghost use Rattle.exports.specs.Returned.{returned, handed, reported, handedTotals};
+ghost use Rattle.refusal.specs.Verdict.{number};
+ghost use Rattle.moving.specs.Moved.{rankOf};
+ghost use Rattle.moving.specs.Answer.{verdict};
+ghost use Rattle.exports.specs.Returned.{returned, handed, filled, told, handedTotals, handedRank};
 
 #[no_mangle]
 pub extern "C" fn niqastul_relabel(
@@ -44,6 +48,20 @@ pub extern "C" fn niqastul_start(parents: &mut [u32], weights: &mut [u32]) -> u3
     refusal::code(forest::start(parents, weights))
 }
 
+// Hands over where a forest moved, as a rank in the cell, which a refusal leaves as it was; answers the number.
+fn hand_rank(answer: GrowthAnswer, moved: &mut u32) -> u32
+    ensures { λ r. ⌜ (r ≡ number (verdict answer)) × (now (moved .exit) ≡ told rankOf (verdict answer) (now (moved .entry))) ⌝ }
+{
+    match answer {
+        GrowthAnswer::Accepted(its) => {
+            *moved = moving::rank(its);
+            0
+        }
+        GrowthAnswer::Refused(number) => number,
+    }
+}
+
+// Of an addition and a join the lowest vertex that moved goes into the cell, absent if none did.
 #[no_mangle]
 pub extern "C" fn niqastul_add(
     parents: &mut [u32],
@@ -52,12 +70,14 @@ pub extern "C" fn niqastul_add(
     ends: &mut [u32],
     jump: &mut [u32],
     lower: &mut [u32],
+    moved: &mut u32,
 ) -> u32
     ensures { λ r. ⌜
-        returned r (withWork (net (now (parents .exit)) (now (weights .exit))) (workOf (now (ends .exit)) (now (jump .exit)) (now (lower .exit))))
-        ≡ handed (addOutcome (withWork (net (now (parents .entry)) (now (weights .entry))) (workOf (now (ends .entry)) (now (jump .entry)) (now (lower .entry)))) (now (edges .entry))) ⌝ }
+        filled r (now (moved .exit)) (withWork (net (now (parents .exit)) (now (weights .exit))) (workOf (now (ends .exit)) (now (jump .exit)) (now (lower .exit))))
+        ≡ handedRank (now (moved .entry)) (addOutcome (withWork (net (now (parents .entry)) (now (weights .entry))) (workOf (now (ends .entry)) (now (jump .entry)) (now (lower .entry)))) (now (edges .entry))) ⌝ }
 {
-    refusal::code(forest::add(parents, weights, edges, ends, jump, lower))
+    let answer = forest::add(parents, weights, edges, ends, jump, lower);
+    hand_rank(answer, moved)
 }
 
 #[no_mangle]
@@ -69,12 +89,13 @@ pub extern "C" fn niqastul_join(
     ends: &mut [u32],
     jump: &mut [u32],
     lower: &mut [u32],
+    moved: &mut u32,
 ) -> u32
     ensures { λ r. ⌜
-        returned r (withWork (net (now (parents .exit)) (now (weights .exit))) (workOf (now (ends .exit)) (now (jump .exit)) (now (lower .exit))))
-        ≡ handed (joinOutcome (withWork (net (now (parents .entry)) (now (weights .entry))) (workOf (now (ends .entry)) (now (jump .entry)) (now (lower .entry)))) (net (now («other_parents» .entry)) (now («other_weights» .entry)))) ⌝ }
+        filled r (now (moved .exit)) (withWork (net (now (parents .exit)) (now (weights .exit))) (workOf (now (ends .exit)) (now (jump .exit)) (now (lower .exit))))
+        ≡ handedRank (now (moved .entry)) (joinOutcome (withWork (net (now (parents .entry)) (now (weights .entry))) (workOf (now (ends .entry)) (now (jump .entry)) (now (lower .entry)))) (net (now («other_parents» .entry)) (now («other_weights» .entry)))) ⌝ }
 {
-    refusal::code(forest::join(
+    let answer = forest::join(
         parents,
         weights,
         other_parents,
@@ -82,7 +103,8 @@ pub extern "C" fn niqastul_join(
         ends,
         jump,
         lower,
-    ))
+    );
+    hand_rank(answer, moved)
 }
 
 #[no_mangle]
@@ -154,7 +176,7 @@ pub extern "C" fn niqastul_report(
     volume: &mut u64,
 ) -> u32
     ensures { λ r. ⌜
-        reported r (totals (now (bound .exit)) (now (volume .exit)))
+        filled r (totals (now (bound .exit)) (now (volume .exit)))
         (lent (written (divisionOf (now (carried .exit)) (now (top .exit)) (now (block .exit)) (now («block_loads» .exit))) (now («edge_blocks» .exit)) (now (reach .exit)) (now («block_count» .exit)))
         (net (now («compared_parents» .exit)) (now («compared_weights» .exit)))
         (workOf (now (ends .exit)) (now (jump .exit)) (now (lower .exit))))

@@ -15,6 +15,7 @@ use Rattle.refusal.specs.Refusal.{firstFault}
 use Rattle.refusal.specs.Verdict.{Verdict}
 use Rattle.refusal.specs.Outcome.{Outcome, ended, decided}
 use Rattle.refusal.proofs.First.{even-list, unless-accepted}
+use Rattle.moving.specs.declared.Moved.{Moved}
 use Rattle.growth.specs.Lists.{ListFits}
 use Rattle.growth.specs.Work.{Work, workOf, withWork, cleared}
 use Rattle.starting.specs.Start.{startRefusal, startOutcome}
@@ -64,7 +65,7 @@ module _ {p w xs e j l : List ℕ} (c : FirstList xs (net p w) (workOf e j l)) w
   started o =
       accepted-tables (startRefusal (net p w)) tt (net p w) (netOf (length p) []) o (start-passes (record { some = c .some; few = c .fits .vertices; long = c .fits .weights }))
 
-  pub first-net : {m m′ : Verdict (Unit {0})} {p′ w′ p″ w″ e″ j″ l″ : List ℕ} → ended m (net p′ w′) ≡ startOutcome (net p w)
+  pub first-net : {m : Verdict (Unit {0})} {m′ : Verdict Moved} {p′ w′ p″ w″ e″ j″ l″ : List ℕ} → ended m (net p′ w′) ≡ startOutcome (net p w)
       → ended m′ (withWork (net p″ w″) (workOf e″ j″ l″)) ≡ addOutcome (withWork (net p′ w′) (workOf e j l)) xs
       → withWork (net p″ w″) (workOf e″ j″ l″) ≡ withWork (netOf (length p) (edges xs)) (cleared (workOf e j l))
   unfolding addOutcome

@@ -25,6 +25,7 @@ use Rattle.refusal.proofs.Ends.{accepted-none}
 use Rattle.refusal.proofs.Never.{end-not, other-not, false-not, fault-not, verdict-not}
 use Rattle.refusal.proofs.Fault.{faultless-proper}
 use Rattle.net.specs.Damage.{damaged}
+use Rattle.moving.specs.declared.Moved.{Moved}
 use Rattle.sorting.proofs.Tallied.{zip-length}
 use Rattle.growth.specs.Work.{NetWithWork}
 use Rattle.starting.specs.Start.{startRefusal, startOutcome}
@@ -68,7 +69,7 @@ start-valid of a =
     let s = startable of z in
     subst Valid (sym (unless-accepted (startRefusal of) of _ z)) (net-valid (s .some) (s .few) (proper-nil (length (of .parents))) (omega (arith, charges-count [])))
 
-pub add-valid : (g : NetWithWork) (xs : List ℕ) → addOutcome g xs .verdict ≡ accepted tt → Valid (addOutcome g xs .tables .net)
+pub add-valid : (g : NetWithWork) (xs : List ℕ) {m : Moved} → addOutcome g xs .verdict ≡ accepted m → Valid (addOutcome g xs .tables .net)
 unfolding addOutcome decided grown
 add-valid g xs a =
     let z = accepted-none (addRefusal g xs) _ a in
@@ -85,7 +86,7 @@ add-valid g xs a =
       light = omega (arith, sum-zip (g .net .weights) (weights n (edges xs)) same, weights-charges proper, k .light);
     })
 
-pub join-valid : (g : NetWithWork) (other : Net) → joinOutcome g other .verdict ≡ accepted tt → Valid (joinOutcome g other .tables .net)
+pub join-valid : (g : NetWithWork) (other : Net) {m : Moved} → joinOutcome g other .verdict ≡ accepted m → Valid (joinOutcome g other .tables .net)
 unfolding joinOutcome decided joined
 join-valid g other a =
     let z = accepted-none (joinRefusal g other) _ a in

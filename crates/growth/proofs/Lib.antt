@@ -1,4 +1,5 @@
 pub mod NewParents
+pub mod Moves
 pub mod Climb
 pub mod Weigh
 pub mod Raise

@@ -5,16 +5,33 @@ ghost use mathlib.Core.Path.{_≡_};
 ghost use mathlib.Core.Bool.{cond};
 ghost use mathlib.Core.List.{[], _∷_};
 ghost use Prim.Native.Nat.{ℕ, _+_, _^_, _<_, _≤_};
-ghost use lib.ListN.{length, getD, take, replicate};
+ghost use lib.ListN.{length, getD, set, take, replicate};
+ghost use Rattle.game.specs.Game.{absent};
 ghost use Rattle.refusal.specs.Limits.{maxVertices};
+ghost use Rattle.moving.specs.Steps.{Differ};
+ghost use Rattle.growth.specs.Moves.{movedWith, Moves};
 ghost use Rattle.growth.specs.Work.{workOf, cleared};
 ghost use Rattle.growth.specs.Growth.{Upward, Connects, Weighs, Light, Gathers, Blank, Raises, Growable, Grows, GrowsKept, Regrows};
 
+// Makes y the parent of w, which has the parent from before still. Answers the lowest vertex that moved, of those so far and w.
+fn link(w: u32, y: u32, parents: &mut [u32], moved: u32) -> u32
+    requires { ⌜ w < length (now parents) ⌝ }
+    ensures { λ r. ⌜ (now (parents .exit) ≡ set (now (parents .entry)) w y) × (r ≡ movedWith moved w (getD (now (parents .entry)) w 0) y) ⌝ }
+{
+    let at = w as usize;
+    let old = parents[at];
+    parents[at] = y;
+    if old == y {
+        return moved;
+    }
+    moving::lower(moved, w)
+}
+
 // Makes the root of u's tree a child of y, and every vertex on the way jump to y. A vertex jumps higher than it stands, so
-// the climb ends.
-fn climb(u: u32, y: u32, parents: &mut [u32], jump: &mut [u32])
+// the climb ends. Answers the lowest vertex that moved so far.
+fn climb(u: u32, y: u32, parents: &mut [u32], jump: &mut [u32], moved: u32) -> u32
     requires { ⌜ (y < length (now parents)) × (length (now parents) ≤ maxVertices) × Upward (length (now parents)) (now jump) ⌝ }
-    ensures { λ _. ⌜ Connects u y (now (parents .entry)) (now (jump .entry)) (now (parents .exit)) (now (jump .exit)) ⌝ }
+    ensures { λ r. ⌜ Connects u y (now (parents .entry)) (now (jump .entry)) (now (parents .exit)) (now (jump .exit)) × Moves (now (parents .entry)) (now (jump .entry)) moved (now (parents .exit)) (now (jump .exit)) r ⌝ }
 {
     let mut w = u;
     while w < y {
@@ -22,11 +39,11 @@ fn climb(u: u32, y: u32, parents: &mut [u32], jump: &mut [u32])
         let next = jump[at];
         jump[at] = y;
         if next == Net::ABSENT {
-            parents[at] = y;
-            return;
+            return link(w, y, parents, moved);
         }
         w = next;
     }
+    moved
 }
 
 // Adds 1 to the weight of u, if the table has one for it.
@@ -47,7 +64,8 @@ fn left(keep: bool, u: u32) -> u32
     if keep { u } else { 0 }
 }
 
-// Climbs for y from each vertex of y's bucket and weighs it. Its place is kept, or cleared while it is at hand.
+// Climbs for y from each vertex of y's bucket and weighs it. Its place is kept, or cleared while it is at hand. Answers the lowest vertex
+// that moved so far.
 fn gather(
     y: u32,
     keep: bool,
@@ -55,23 +73,32 @@ fn gather(
     weights: &mut [u32],
     parents: &mut [u32],
     jump: &mut [u32],
-)
+    moved: u32,
+) -> u32
     requires { ⌜ (y < length (now parents)) × (length (now parents) ≤ maxVertices) × Upward (length (now parents)) (now jump) × Light (now weights) (now bucket) ⌝ }
-    ensures { λ _. ⌜ Gathers y keep (now (bucket .entry)) (now (weights .entry)) (now (parents .entry)) (now (jump .entry)) (now (bucket .exit)) (now (weights .exit)) (now (parents .exit)) (now (jump .exit)) ⌝ }
+    ensures { λ r. ⌜ Gathers y keep (now (bucket .entry)) (now (weights .entry)) (now (parents .entry)) (now (jump .entry)) (now (bucket .exit)) (now (weights .exit)) (now (parents .exit)) (now (jump .exit)) × Moves (now (parents .entry)) (now (jump .entry)) moved (now (parents .exit)) (now (jump .exit)) r ⌝ }
 {
+    let mut lowest = moved;
     let mut i = 0;
     while i < bucket.len() {
         let u = bucket[i];
         bucket[i] = left(keep, u);
         weigh(u, weights);
-        climb(u, y, parents, jump);
+        lowest = climb(u, y, parents, jump, lowest);
         i += 1;
     }
+    lowest
+}
+
+// What raising answers: where the last bucket ends, and the lowest vertex that moved.
+struct Raising {
+    end: usize,
+    moved: u32,
 }
 
 // Raises the vertices upward, each with its bucket of lower ends, to the forest of the graph that is filed. A vertex has its new parent
-// when it has a jump; before that its entry is left from before. Answers where the last bucket ends: so far the table of lower ends is
-// kept or cleared.
+// when it has a jump; before that its entry is left from before. Up to where the last bucket ends the table of lower ends is kept or
+// cleared.
 fn raise(
     keep: bool,
     ends: &[u32],
@@ -79,19 +106,28 @@ fn raise(
     weights: &mut [u32],
     parents: &mut [u32],
     jump: &mut [u32],
-) -> usize
+) -> Raising
     requires { ⌜ Blank (now ends) (now lower) (now weights) (now parents) (now jump) ⌝ }
-    ensures { λ r. ⌜ Raises keep (now (ends .entry)) (now (lower .entry)) (now (weights .entry)) (now (parents .entry)) (now (jump .entry)) (now (lower .exit)) (now (weights .exit)) (now (parents .exit)) (now (jump .exit)) r ⌝ }
+    ensures { λ r. ⌜ Raises keep (now (ends .entry)) (now (lower .entry)) (now (weights .entry)) (now (parents .entry)) (now (jump .entry)) (now (lower .exit)) (now (weights .exit)) (now (parents .exit)) (now (jump .exit)) (r .end) × Moves (now (parents .entry)) (now (jump .entry)) absent (now (parents .exit)) (now (jump .exit)) (r .moved) ⌝ }
 {
+    let mut moved = Net::ABSENT;
     let mut at = 0;
     let mut y = 0;
     while y < ends.len() {
         let end = wide(ends[y]);
-        gather(y as u32, keep, &mut lower[at..end], weights, parents, jump);
+        moved = gather(
+            y as u32,
+            keep,
+            &mut lower[at..end],
+            weights,
+            parents,
+            jump,
+            moved,
+        );
         at = end;
         y += 1;
     }
-    at
+    Raising { end: at, moved }
 }
 
 // Clears the work tables, of which the table of lower ends is clear up to a place.
@@ -105,20 +141,21 @@ pub fn clear(ends: &mut [u32], jump: &mut [u32], lower: &mut [u32], from: usize)
 }
 
 // Grows the forest of the graph that is filed, which has the links that the table of parents holds, adds the weights that the graph
-// gives, and clears the work tables.
+// gives, and clears the work tables. Answers the lowest vertex that moved.
 pub fn grow(
     parents: &mut [u32],
     weights: &mut [u32],
     ends: &mut [u32],
     jump: &mut [u32],
     lower: &mut [u32],
-)
+) -> u32
     requires { ⌜ Growable (now ends) (now lower) (now parents) (now jump) × Light (now weights) (now lower) ⌝ }
-    ensures { λ _. ⌜ Grows (now (ends .entry)) (now (lower .entry)) (now (weights .entry)) (now (parents .entry)) (now (jump .entry)) (now (parents .exit)) (now (weights .exit)) (now (ends .exit)) (now (lower .exit)) (now (jump .exit)) ⌝ }
+    ensures { λ r. ⌜ Grows (now (ends .entry)) (now (lower .entry)) (now (weights .entry)) (now (parents .entry)) (now (jump .entry)) (now (parents .exit)) (now (weights .exit)) (now (ends .exit)) (now (lower .exit)) (now (jump .exit)) × Differ (now (parents .entry)) (now (parents .exit)) r ⌝ }
 {
     table::fill(jump, Net::ABSENT);
-    let end = raise(false, ends, lower, weights, parents, jump);
-    clear(ends, jump, lower, end);
+    let raising = raise(false, ends, lower, weights, parents, jump);
+    clear(ends, jump, lower, raising.end);
+    raising.moved
 }
 
 // Grows the forest in the same way, with what is filed kept for who reads it next. The jumps are left as they stand.
@@ -137,11 +174,11 @@ pub fn grow_kept(
 }
 
 // Grows the forest of the graph that is filed, and clears the work tables. Some edges may be old links, so no weight is counted: the
-// table for it is empty.
-pub fn regrow(parents: &mut [u32], ends: &mut [u32], jump: &mut [u32], lower: &mut [u32])
+// table for it is empty. Answers the lowest vertex that moved.
+pub fn regrow(parents: &mut [u32], ends: &mut [u32], jump: &mut [u32], lower: &mut [u32]) -> u32
     requires { ⌜ Growable (now ends) (now lower) (now parents) (now jump) ⌝ }
-    ensures { λ _. ⌜ Regrows (now (ends .entry)) (now (lower .entry)) (now (parents .entry)) (now (jump .entry)) (now (parents .exit)) (now (ends .exit)) (now (lower .exit)) (now (jump .exit)) ⌝ }
+    ensures { λ r. ⌜ Regrows (now (ends .entry)) (now (lower .entry)) (now (parents .entry)) (now (jump .entry)) (now (parents .exit)) (now (ends .exit)) (now (lower .exit)) (now (jump .exit)) × Differ (now (parents .entry)) (now (parents .exit)) r ⌝ }
 {
     let mut none = [0u32; 0];
-    grow(parents, &mut none, ends, jump, lower);
+    grow(parents, &mut none, ends, jump, lower)
 }

@@ -29,9 +29,9 @@ valid-never-30 {of} v = record {
 }
 
 -- a verdict that is accepted
-said : (v : Verdict (Unit {0})) → isAccepted v ≡ true → v ≡ accepted tt
+said : {X : Type 0} (v : Verdict X) → isAccepted v ≡ true → ((values : X) × (v ≡ accepted values))
 unfolding isAccepted
-said (accepted tt) e = refl
+said (accepted values) e = (values, refl)
 said (refused k) e = absurd (false≢true e)
 
 -- the net that was put in
@@ -43,11 +43,11 @@ nothing e = let z : _≡_ {A = ℕ} 0 1 = cc in omega arith
 
 written-valid : (w : World) (c : Call) (j : ℕ) → written c ≡ some j → step w c .accepted ≡ true → Valid (step w c .world .nets j)
 unfolding written step stepped
-written-valid w (start i) j e a = put (w .nets) i j _ e (start-valid (w .nets i) (said _ a))
-written-valid w (add i xs work) j e a = put (w .nets) i j _ e (add-valid (withWork (w .nets i) work) xs (said _ a))
-written-valid w (join i k different work) j e a = put (w .nets) i j _ e (join-valid (withWork (w .nets i) work) (w .nets k) (said _ a))
+written-valid w (start i) j e a = put (w .nets) i j _ e (start-valid (w .nets i) (said _ a .1))
+written-valid w (add i xs work) j e a = put (w .nets) i j _ e (add-valid (withWork (w .nets i) work) xs (said _ a .1))
+written-valid w (join i k different work) j e a = put (w .nets) i j _ e (join-valid (withWork (w .nets i) work) (w .nets k) (said _ a .1))
 written-valid w (save i f) j e a = absurd (nothing e)
-written-valid w (read i f) j e a = put (w .nets) i j _ e (read-valid (w .nets i) (w .files f) (said _ a))
+written-valid w (read i f) j e a = put (w .nets) i j _ e (read-valid (w .nets i) (w .files f) (said _ a .1))
 written-valid w (relabel order xs tables) j e a = absurd (nothing e)
 written-valid w (divide i B k tables) j e a = absurd (nothing e)
 written-valid w (report i B k xs tables) j e a = absurd (nothing e)

@@ -23,6 +23,7 @@ use Rattle.refusal.specs.Outcome.{decided}
 use Rattle.refusal.proofs.First.{unless-part}
 use Rattle.refusal.proofs.Fault.{faultless-proper}
 use Rattle.net.specs.Damage.{damaged}
+use Rattle.moving.specs.Moved.{moved}
 use Rattle.growth.specs.Work.{Work, NetWithWork, withWork, cleared}
 use Rattle.starting.specs.Start.{startRefusal, startOutcome}
 use Rattle.adding.specs.Add.{grown, addRefusal, addOutcome}
@@ -75,11 +76,11 @@ pub record Kept (w : World) (b : Book) : Type 0 where
   pub files : (f : ℕ) → FileKept (w .files f) (b .files f)
 
 -- a call that writes one net, or one file: refused it leaves the old one, accepted it has to put in what its entry demands
-net-written : {w : World} {b : Book} (v : Kept w b) (i k : ℕ) (new : Net) (noted : Option NetRecord) (e : Entry) → enter b e ≡ record { nets = update (b .nets) i noted; files = b .files } → (k ≡ 0 → NetKept new noted) → Kept (withNet w i (unless k (w .nets i) new)) (note b e (isAccepted (judged k (tt {0}))))
+net-written : {X : Type 0} (values : X) {w : World} {b : Book} (v : Kept w b) (i k : ℕ) (new : Net) (noted : Option NetRecord) (e : Entry) → enter b e ≡ record { nets = update (b .nets) i noted; files = b .files } → (k ≡ 0 → NetKept new noted) → Kept (withNet w i (unless k (w .nets i) new)) (note b e (isAccepted (judged k values)))
 unfolding unless note isAccepted judged
-net-written {w} {b} v i zero new noted e q h =
+net-written values {w} {b} v i zero new noted e q h =
     subst (Kept (withNet w i new)) (sym q) (record { nets = update-both NetKept (w .nets) (b .nets) (v .nets) i new noted (h refl); files = v .files })
-net-written {w} {b} v i (suc k) new noted e q h =
+net-written values {w} {b} v i (suc k) new noted e q h =
     record { nets = update-same NetKept (w .nets) (b .nets) (v .nets) i (w .nets i) refl; files = v .files }
 
 file-written : {w : World} {b : Book} (v : Kept w b) (f k : ℕ) (new : List ℕ) (noted : Option FileRecord) (e : Entry) → enter b e ≡ record { nets = b .nets; files = update (b .files) f noted } → (k ≡ 0 → FileKept new noted) → Kept (withFile w f (unless k (w .files f) new)) (note b e (isAccepted (judged k (tt {0}))))
@@ -212,22 +213,24 @@ note-passed b false = refl
 pub step-keeps : {w : World} {b : Book} (c : Call) → Kept w b → Kept (step w c .world) (note b (entry c) (step w c .accepted))
 unfolding step stepped entry decided enter startOutcome addOutcome joinOutcome saveOutcome readOutcome
 step-keeps {w} {b} (start i) v =
-    net-written v i (startRefusal (w .nets i)) (netOf (length (w .nets i .parents)) []) (some (record { edges = [] })) (started i) refl (started-kept (w .nets i))
+    net-written tt v i (startRefusal (w .nets i)) (netOf (length (w .nets i .parents)) []) (some (record { edges = [] })) (started i) refl (started-kept (w .nets i))
 step-keeps {w} {b} (add i xs work) v =
-    subst (λ (x : Net). Kept (withNet w i x) (note b (added i xs) (isAccepted (judged (addRefusal (withWork (w .nets i) work) xs) (tt {0})))))
+    let m = moved (w .nets i) (grown (w .nets i) (edges xs)) in
+    subst (λ (x : Net). Kept (withNet w i x) (note b (added i xs) (isAccepted (judged (addRefusal (withWork (w .nets i) work) xs) m))))
     (sym (unless-part (λ (g : NetWithWork). g .net) (addRefusal (withWork (w .nets i) work) xs) (withWork (w .nets i) work) (withWork (grown (w .nets i) (edges xs)) (cleared work))))
-    (net-written v i (addRefusal (withWork (w .nets i) work) xs) (grown (w .nets i) (edges xs)) (behind (b .nets i) (some (record { edges = edges xs }))) (added i xs) refl
+    (net-written m v i (addRefusal (withWork (w .nets i) work) xs) (grown (w .nets i) (edges xs)) (behind (b .nets i) (some (record { edges = edges xs }))) (added i xs) refl
     (added-kept (w .nets i) (b .nets i) xs work (v .nets i)))
 step-keeps {w} {b} (join i j different work) v =
-    subst (λ (x : Net). Kept (withNet w i x) (note b (entered i j) (isAccepted (judged (joinRefusal (withWork (w .nets i) work) (w .nets j)) (tt {0})))))
+    let m = moved (w .nets i) (joined (w .nets i) (w .nets j)) in
+    subst (λ (x : Net). Kept (withNet w i x) (note b (entered i j) (isAccepted (judged (joinRefusal (withWork (w .nets i) work) (w .nets j)) m))))
     (sym (unless-part (λ (g : NetWithWork). g .net) (joinRefusal (withWork (w .nets i) work) (w .nets j)) (withWork (w .nets i) work) (withWork (joined (w .nets i) (w .nets j)) (cleared work))))
-    (net-written v i (joinRefusal (withWork (w .nets i) work) (w .nets j)) (joined (w .nets i) (w .nets j)) (behind (b .nets i) (b .nets j)) (entered i j) refl
+    (net-written m v i (joinRefusal (withWork (w .nets i) work) (w .nets j)) (joined (w .nets i) (w .nets j)) (behind (b .nets i) (b .nets j)) (entered i j) refl
     (joined-kept (w .nets i) (w .nets j) (b .nets i) (b .nets j) work (v .nets i) (v .nets j)))
 step-keeps {w} {b} (save i f) v =
     file-written v f (saveRefusal (w .nets i) (length (w .files f))) (linkFile (w .nets i)) (savedRecord (b .nets i)) (saved i f) refl
     (saved-kept (w .nets i) (b .nets i) (length (w .files f)) (v .nets i))
 step-keeps {w} {b} (read i f) v =
-    net-written v i (readRefusal (length (w .nets i .parents)) (length (w .nets i .weights)) (w .files f)) (fileNet (w .files f)) (loadedRecord (b .files f)) (loaded i f) refl
+    net-written tt v i (readRefusal (length (w .nets i .parents)) (length (w .nets i .weights)) (w .files f)) (fileNet (w .files f)) (loadedRecord (b .files f)) (loaded i f) refl
     (λ z. loaded-kept (w .files f) (b .files f) (v .files f))
 step-keeps {w} {b} (relabel order xs tables) v = subst (Kept w) (sym (note-passed b (isAccepted (relabelOutcome order xs tables .verdict)))) v
 step-keeps {w} {b} (divide i B k tables) v = subst (Kept w) (sym (note-passed b (isAccepted (divideOutcome (w .nets i) B k tables .verdict)))) v

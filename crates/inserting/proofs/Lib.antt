@@ -1,3 +1,4 @@
 pub mod Exchange
 pub mod Put
+pub mod Lowered
 pub mod First

@@ -3,7 +3,7 @@
 use mathlib.Core.Path.{_≡_, refl, sym, ap, subst, _∙_}
 use mathlib.Core.Logic.{_≢_, inr}
 use mathlib.Core.List.{List, [], _∷_, _++_, append-assoc, append-nil}
-use Prim.Native.Nat.{ℕ, _+_, _-_, _≤_, _<_}
+use Prim.Native.Nat.{ℕ, _+_, _-_, _≤_, _<_, min}
 use native.Mathlib.Omega.{arith}
 use lib.ListN.{length, getD, set, take, drop, length-set, length-drop}
 use lib.Seq.{take-all}
@@ -12,7 +12,7 @@ use Rattle.game.specs.Game.{absent, forest}
 use Rattle.game.specs.Tree.{links}
 use Rattle.game.proofs.Conn.{within-refl, within-trans, within-both}
 use Rattle.game.proofs.Edges.{edges-drop, edges-end, edges-length}
-use Rattle.game.proofs.Forest.{forest-same, forest-unique}
+use Rattle.game.proofs.Forest.{forest-same, forest-unique, links-fall}
 use Rattle.game.proofs.Sound.{Sound, sound-true, true-sound, sound-parent, sound-set, getD-default}
 use Rattle.game.proofs.Within.{within-linked}
 use Rattle.game.proofs.Order.{same-linked}
@@ -23,10 +23,13 @@ use Rattle.game.proofs.Proper.{proper-append}
 use Rattle.game.proofs.Links.{links-proper}
 use Rattle.bucket.specs.Filed.{Filed}
 use Rattle.refusal.proofs.First.{first-none}
+use Rattle.moving.specs.Steps.{Differ, Fallen}
+use Rattle.moving.proofs.Fallen.{fallen-on}
 use Rattle.growth.specs.Growth.{Regrows}
 use Rattle.growth.proofs.NewParents.{links-in}
 use Rattle.growth.proofs.Regrown.{regrown}
-use Rattle.inserting.specs.Putting.{Alike, pending, Table, Exchanged, Put, PutUpTo, Extendable}
+use Rattle.inserting.specs.Putting.{Alike, pending, Table, Exchanged, Lowers, Put, PutUpTo, Extendable}
+use Rattle.inserting.proofs.Lowered.{lowers-set}
 use Rattle.inserting.proofs.Exchange.{exchange-root, exchange-on, exchange-swap, spent-alike}
 
 pub alike-refl : (g : List Edge) → Alike g g
@@ -51,6 +54,10 @@ module _ {p : List ℕ} {low high : ℕ} (t : Table p) (up : low < high) (inside
 
   stored : Sound (set p low high)
   stored = sound-set (sound-true p (t .sound)) low high (inr (up, inside))
+
+  -- the lower vertex gets a lower parent than it had, by what the code reads
+  pub exchanged-lower : {m k : ℕ} → k ≡ min m low → high < getD p low 0 → Lowers p m (set p low high) k
+  exchanged-lower {m} e over = rw e (lowers-set p m low high below (omega (arith, read)))
 
   pub exchanged-root : getD p low 0 ≡ absent → Exchanged p low high (set p low high) high high
   exchanged-root none = record {
@@ -188,10 +195,19 @@ module _ {p xs ends jump lower q ys : List ℕ} {i : ℕ} (e : Extendable p xs e
   rest-proper : Proper (length q) (links q ++ edges ys)
   rest-proper = proper-append (links-proper (sound-true q (u .sound))) (faultless-proper (length q) (edges ys) rest-faultless)
 
-  -- what is filed of it is grown to the forest of the whole
-  pub rest-grown : {ends′ lower′ jump p′ ends″ lower″ jump″ : List ℕ} → Filed (length q) (links q ++ edges ys) ends′ lower′ → Regrows ends′ lower′ q jump p′ ends″ lower″ jump″ → p′ ≡ forest (length p) (links p ++ edges xs)
-  rest-grown f g =
-      regrown rest-proper f (links-in (sound-true q (u .sound)) (edges ys)) g
-      ∙ ap (λ (m : ℕ). forest m (links q ++ edges ys)) (u .same)
-      ∙ ap (λ (zs : List ℕ). forest (length p) (links q ++ edges zs)) y
-      ∙ put-rest u (length p)
+  module _ {ends′ lower′ jump′ p′ ends″ lower″ jump″ : List ℕ} (f : Filed (length q) (links q ++ edges ys) ends′ lower′) (g : Regrows ends′ lower′ q jump′ p′ ends″ lower″ jump″) where
+    regrown-rest : p′ ≡ forest (length q) (links q ++ edges ys)
+    regrown-rest = regrown rest-proper f (links-in (sound-true q (u .sound)) (edges ys)) g
+
+    -- what is filed of it is grown to the forest of the whole
+    pub rest-grown : p′ ≡ forest (length p) (links p ++ edges xs)
+    rest-grown =
+        regrown-rest
+        ∙ ap (λ (m : ℕ). forest m (links q ++ edges ys)) (u .same)
+        ∙ ap (λ (zs : List ℕ). forest (length p) (links q ++ edges zs)) y
+        ∙ put-rest u (length p)
+
+    -- and parents only fall, so that what moved while edges were put in has moved then too
+    pub rest-moved : {r s k : ℕ} → Fallen p q r → Differ q p′ s → k ≡ min r s → Differ p p′ k
+    rest-moved h d m = rw m (fallen-on h d (λ z. subst (λ (t : List ℕ). getD t z absent ≤ getD q z absent) (sym regrown-rest)
+        (links-fall (sound-true q (u .sound)) (omega (arith, u .same, e .table .few)) (edges ys) z)))

@@ -11,6 +11,7 @@ use Rattle.game.specs.Tree.{links, sound}
 use Rattle.game.proofs.Conn.{Within}
 use Rattle.refusal.specs.Limits.{maxVertices}
 use Rattle.refusal.specs.Refusal.{firstFault}
+use Rattle.moving.specs.Steps.{Fallen}
 use Rattle.growth.specs.Work.{workOf, cleared}
 use Rattle.growth.specs.Growth.{Light}
 
@@ -36,6 +37,10 @@ pub record Exchanged (p : List ℕ) (low high : ℕ) (p′ : List ℕ) (low′ h
   pub order : low′ ≤ high′
   pub inside : high′ < length p
   pub alike : Alike (pending p′ (low′ ─ high′)) (pending p (low ─ high))
+
+-- a step of putting promises that parents only fall: from the lowest vertex that has fallen before it, the lowest that has after it
+pub record Lowers (p : List ℕ) (m : ℕ) (p′ : List ℕ) (m′ : ℕ) : Type 0 where
+  pub fallen : (was : List ℕ) → Fallen was p m → Fallen was p′ m′
 
 -- putting the edge e in promises a sound table that is alike with the old one and the edge, in few steps
 pub record Put (p : List ℕ) (e : Edge) (p′ : List ℕ) (steps : ℕ) : Type 0 where

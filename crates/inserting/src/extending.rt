@@ -7,10 +7,12 @@ ghost use lib.ListN.{length};
 ghost use Rattle.game.specs.Edge.{edges as edgesOf};
 ghost use Rattle.bucket.specs.Ends.{tallied};
 ghost use Rattle.bucket.specs.Steps.{upperCounts};
+ghost use Rattle.moving.specs.Steps.{Differ};
 ghost use Rattle.inserting.specs.Putting.{Extendable, Extends, Weighable};
 
 // Makes the parents those of the elimination game on the old links and the edges of the list, raises the weight of each edge's lower
-// end, and clears the work tables. The flag says that the edges are counted by upper end: then the list is grown with the whole forest.
+// end, and clears the work tables. Answers the lowest vertex that moved. The flag says that the edges are counted by upper end: then the
+// list is grown with the whole forest.
 pub fn extend(
     parents: &mut [u32],
     weights: &mut [u32],
@@ -19,14 +21,13 @@ pub fn extend(
     jump: &mut [u32],
     lower: &mut [u32],
     counted: bool,
-)
+) -> u32
     requires { ⌜ Extendable (now parents) (now edges) (now ends) (now jump) (now lower) × Weighable (now parents) (now weights) (now lower) × (counted ≡ true → now ends ≡ upperCounts (length (now parents)) (edgesOf (now edges))) ⌝ }
-    ensures { λ _. ⌜ Extends (now (parents .entry)) (now (edges .entry)) (now (ends .entry)) (now (jump .entry)) (now (lower .entry)) (now (parents .exit)) (now (ends .exit)) (now (jump .exit)) (now (lower .exit)) × (now (weights .exit) ≡ tallied false (edgesOf (now (edges .entry))) (now (weights .entry))) ⌝ }
+    ensures { λ r. ⌜ Extends (now (parents .entry)) (now (edges .entry)) (now (ends .entry)) (now (jump .entry)) (now (lower .entry)) (now (parents .exit)) (now (ends .exit)) (now (jump .exit)) (now (lower .exit)) × (now (weights .exit) ≡ tallied false (edgesOf (now (edges .entry))) (now (weights .entry))) × Differ (now (parents .entry)) (now (parents .exit)) r ⌝ }
 {
     if counted {
-        growing::grow_counted(parents, weights, edges, ends, jump, lower);
-        return;
+        return growing::grow_counted(parents, weights, edges, ends, jump, lower);
     }
     bucket::tally(weights, edges, false);
-    putting::insert(parents, edges, ends, jump, lower);
+    putting::insert(parents, edges, ends, jump, lower)
 }

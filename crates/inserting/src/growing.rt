@@ -7,9 +7,11 @@ ghost use lib.ListN.{length};
 ghost use Rattle.game.specs.Edge.{edges as edgesOf};
 ghost use Rattle.bucket.specs.Ends.{tallied};
 ghost use Rattle.bucket.specs.Steps.{upperCounts};
+ghost use Rattle.moving.specs.Steps.{Differ};
 ghost use Rattle.inserting.specs.Putting.{Extendable, Extends, Weighable};
 
 // Grows the forest of the old links and the edges of the list, raises the weight of each edge's lower end, and clears the work tables.
+// Answers the lowest vertex that moved.
 pub fn grow_counted(
     parents: &mut [u32],
     weights: &mut [u32],
@@ -17,16 +19,15 @@ pub fn grow_counted(
     ends: &mut [u32],
     jump: &mut [u32],
     lower: &mut [u32],
-)
+) -> u32
     requires { ⌜ Extendable (now parents) (now edges) (now ends) (now jump) (now lower) × Weighable (now parents) (now weights) (now lower) × (now ends ≡ upperCounts (length (now parents)) (edgesOf (now edges))) ⌝ }
-    ensures { λ _. ⌜ Extends (now (parents .entry)) (now (edges .entry)) (now (ends .entry)) (now (jump .entry)) (now (lower .entry)) (now (parents .exit)) (now (ends .exit)) (now (jump .exit)) (now (lower .exit)) × (now (weights .exit) ≡ tallied false (edgesOf (now (edges .entry))) (now (weights .entry))) ⌝ }
+    ensures { λ r. ⌜ Extends (now (parents .entry)) (now (edges .entry)) (now (ends .entry)) (now (jump .entry)) (now (lower .entry)) (now (parents .exit)) (now (ends .exit)) (now (jump .exit)) (now (lower .exit)) × (now (weights .exit) ≡ tallied false (edgesOf (now (edges .entry))) (now (weights .entry))) × Differ (now (parents .entry)) (now (parents .exit)) r ⌝ }
 {
     if table::is_all(parents, Net::ABSENT) {
         bucket::file_counted(edges, ends, lower);
-        growth::grow(parents, weights, ends, jump, lower);
-        return;
+        return growth::grow(parents, weights, ends, jump, lower);
     }
     bucket::tally(weights, edges, false);
     bucket::file_counted_edges(parents, edges, ends, lower);
-    growth::regrow(parents, ends, jump, lower);
+    growth::regrow(parents, ends, jump, lower)
 }

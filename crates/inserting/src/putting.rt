@@ -7,80 +7,106 @@ ghost use lib.ListN.{length};
 ghost use Rattle.game.specs.Edge.{edges as edgesOf, _─_};
 ghost use Rattle.refusal.specs.Limits.{maxVertices};
 ghost use Rattle.refusal.specs.Refusal.{firstFault};
-ghost use Rattle.inserting.specs.Putting.{Table, Exchanged, Put, PutUpTo, Extendable, Extends};
+ghost use Rattle.moving.specs.Steps.{Differ, Fallen};
+ghost use Rattle.inserting.specs.Putting.{Table, Exchanged, Lowers, Put, PutUpTo, Extendable, Extends};
 
-// An edge on its way into the forest, from a lower vertex to a higher one; spent, where the two are one.
+// An edge on its way into the forest, from a lower vertex to a higher one; spent, where the two are one. With it goes the lowest vertex
+// that moved so far.
 struct Pending {
     low: u32,
     high: u32,
+    moved: u32,
+}
+
+// How far putting in has come: exchanges that were made, or a place in the list; and the lowest vertex that moved.
+struct Progress {
+    count: usize,
+    moved: u32,
 }
 
 // One exchange: the lower vertex takes the edge in if it is a root; else the edge goes on from the lower of its parent and the
-// edge's upper end, to the higher.
-fn exchange(parents: &mut [u32], low: u32, high: u32) -> Pending
+// edge's upper end, to the higher. A vertex that is written gets a lower parent, so it has moved for good.
+fn exchange(parents: &mut [u32], low: u32, high: u32, moved: u32) -> Pending
     requires { ⌜ Table (now parents) × (low < high) × (high < length (now parents)) ⌝ }
-    ensures { λ r. ⌜ Exchanged (now (parents .entry)) low high (now (parents .exit)) (r .low) (r .high) ⌝ }
+    ensures { λ r. ⌜ Exchanged (now (parents .entry)) low high (now (parents .exit)) (r .low) (r .high) × Lowers (now (parents .entry)) moved (now (parents .exit)) (r .moved) ⌝ }
 {
     let at = low as usize;
     let parent = parents[at];
     if parent == Net::ABSENT {
         parents[at] = high;
-        return Pending { low: high, high };
+        return Pending {
+            low: high,
+            high,
+            moved: moving::lower(moved, low),
+        };
     }
     if parent <= high {
-        return Pending { low: parent, high };
+        return Pending {
+            low: parent,
+            high,
+            moved,
+        };
     }
     parents[at] = high;
     Pending {
         low: high,
         high: parent,
+        moved: moving::lower(moved, low),
     }
 }
 
-// Puts an edge in, given by its ends, lower first. Answers the number of exchanges.
-fn put_up(parents: &mut [u32], from: u32, to: u32) -> usize
+// Puts an edge in, given by its ends, lower first. Answers the number of exchanges, and the lowest vertex that moved so far.
+fn put_up(parents: &mut [u32], from: u32, to: u32, moved: u32) -> Progress
     requires { ⌜ Table (now parents) × (from < to) × (to < length (now parents)) ⌝ }
-    ensures { λ r. ⌜ Put (now (parents .entry)) (from ─ to) (now (parents .exit)) r ⌝ }
+    ensures { λ r. ⌜ Put (now (parents .entry)) (from ─ to) (now (parents .exit)) (r .count) × Lowers (now (parents .entry)) moved (now (parents .exit)) (r .moved) ⌝ }
 {
     let mut low = from;
     let mut high = to;
+    let mut lowest = moved;
     let mut steps = 0;
     while low < high {
-        let edge = exchange(parents, low, high);
+        let edge = exchange(parents, low, high, lowest);
         low = edge.low;
         high = edge.high;
+        lowest = edge.moved;
         steps += 1;
     }
-    steps
+    Progress {
+        count: steps,
+        moved: lowest,
+    }
 }
 
-fn put(parents: &mut [u32], a: u32, b: u32) -> usize
+fn put(parents: &mut [u32], a: u32, b: u32, moved: u32) -> Progress
     requires { ⌜ Table (now parents) × (a < length (now parents)) × (b < length (now parents)) × (a ≡ b → ⊥) ⌝ }
-    ensures { λ r. ⌜ Put (now (parents .entry)) (a ─ b) (now (parents .exit)) r ⌝ }
+    ensures { λ r. ⌜ Put (now (parents .entry)) (a ─ b) (now (parents .exit)) (r .count) × Lowers (now (parents .entry)) moved (now (parents .exit)) (r .moved) ⌝ }
 {
     if a < b {
-        put_up(parents, a, b)
+        put_up(parents, a, b, moved)
     } else {
-        put_up(parents, b, a)
+        put_up(parents, b, a, moved)
     }
 }
 
 // Puts in the edges of a list one by one, as long as fewer exchanges were made than the budget allows. Answers the place in the
-// list up to which they are in.
-fn put_some(parents: &mut [u32], edges: &[u32], budget: usize) -> usize
+// list up to which they are in, and the lowest vertex that moved.
+fn put_some(parents: &mut [u32], edges: &[u32], budget: usize) -> Progress
     requires { ⌜ Table (now parents) × (firstFault (length (now parents)) (edgesOf (now edges)) ≡ 0) × (budget ≤ maxVertices) ⌝ }
-    ensures { λ r. ⌜ PutUpTo (now (parents .entry)) (now (edges .entry)) (now (parents .exit)) r ⌝ }
+    ensures { λ r. ⌜ PutUpTo (now (parents .entry)) (now (edges .entry)) (now (parents .exit)) (r .count) × Fallen (now (parents .entry)) (now (parents .exit)) (r .moved) ⌝ }
 {
+    let mut moved = Net::ABSENT;
     let mut steps = 0;
     let mut i = 0;
     while i + 1 < edges.len() {
         if budget <= steps {
-            return i;
+            return Progress { count: i, moved };
         }
-        steps += put(parents, edges[i], edges[i + 1]);
+        let taken = put(parents, edges[i], edges[i + 1], moved);
+        steps += taken.count;
+        moved = taken.moved;
         i += 2;
     }
-    i
+    Progress { count: i, moved }
 }
 
 // How many exchanges a list is worth before the whole forest of n vertices is grown.
@@ -95,23 +121,26 @@ pub fn is_long(n: usize, m: usize) -> bool {
     budget(n) <= m
 }
 
-// Makes the parents those of the elimination game on the old links and the edges of the list, and clears the work tables.
+// Makes the parents those of the elimination game on the old links and the edges of the list, and clears the work tables. Answers the
+// lowest vertex that moved.
 pub fn insert(
     parents: &mut [u32],
     edges: &[u32],
     ends: &mut [u32],
     jump: &mut [u32],
     lower: &mut [u32],
-)
+) -> u32
     requires { ⌜ Extendable (now parents) (now edges) (now ends) (now jump) (now lower) ⌝ }
-    ensures { λ _. ⌜ Extends (now (parents .entry)) (now (edges .entry)) (now (ends .entry)) (now (jump .entry)) (now (lower .entry)) (now (parents .exit)) (now (ends .exit)) (now (jump .exit)) (now (lower .exit)) ⌝ }
+    ensures { λ r. ⌜ Extends (now (parents .entry)) (now (edges .entry)) (now (ends .entry)) (now (jump .entry)) (now (lower .entry)) (now (parents .exit)) (now (ends .exit)) (now (jump .exit)) (now (lower .exit)) × Differ (now (parents .entry)) (now (parents .exit)) r ⌝ }
 {
     let most = budget(parents.len());
-    let at = put_some(parents, edges, most);
+    let progress = put_some(parents, edges, most);
+    let at = progress.count;
     if edges.len() <= at + 1 {
         growth::clear(ends, jump, lower, 0);
-        return;
+        return progress.moved;
     }
     bucket::file_edges(parents, &edges[at..], ends, lower);
-    growth::regrow(parents, ends, jump, lower);
+    let grown = growth::regrow(parents, ends, jump, lower);
+    moving::lower(progress.moved, grown)
 }

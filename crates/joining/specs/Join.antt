@@ -1,5 +1,6 @@
 -- "Join a second net into a first; the second is unchanged." "Parents become those of the elimination game on the old links
--- together with .. the other net's links"; "joining sums the loads of equal ranks".
+-- together with .. the other net's links"; "joining sums the loads of equal ranks". Joining answers where the first net's forest moved
+-- (document 02, Paper 2).
 -- Assumes nothing.
 use mathlib.Core.List.{List, [], _∷_, _++_, zipWith}
 use Prim.Native.Nat.{ℕ, _+_}
@@ -10,8 +11,10 @@ use Rattle.game.specs.Tree.{links}
 use Rattle.game.specs.Net.{Net, total}
 use Rattle.refusal.specs.Limits.{maxTotal}
 use Rattle.refusal.specs.Refusal.{given, first, badCount, wrongLength}
-use Rattle.refusal.specs.Outcome.{Done, done}
+use Rattle.refusal.specs.Outcome.{Outcome, decided}
 use Rattle.net.specs.Damage.{damaged}
+use Rattle.moving.specs.declared.Moved.{Moved}
+use Rattle.moving.specs.Moved.{moved}
 use Rattle.growth.specs.Work.{NetWithWork, badWork, cleared}
 
 -- two nets joined
@@ -37,5 +40,7 @@ joinRefusal g other =
     ∷ given (ltb maxTotal (total (g .net) + total other)) 20
     ∷ [])
 
-unfoldable pub joinOutcome : NetWithWork → Net → Done NetWithWork
-joinOutcome g other = done (joinRefusal g other) g (record { net = joined (g .net) other; work = cleared (g .work) })
+unfoldable pub joinOutcome : NetWithWork → Net → Outcome Moved NetWithWork
+joinOutcome g other =
+    let new : Net = joined (g .net) other in
+    decided (joinRefusal g other) (moved (g .net) new) g (record { net = new; work = cleared (g .work) })

@@ -1,6 +1,6 @@
 // Joining a second net into a first.
+use moving::GrowthAnswer;
 use net::Net;
-use refusal::Answer;
 ghost use mathlib.Core.Path.{_≡_};
 ghost use mathlib.Core.List.{zipWith};
 ghost use Prim.Native.Nat.{_+_, _^_, _<_};
@@ -8,7 +8,7 @@ ghost use lib.ListN.{length};
 ghost use Rattle.game.specs.Net.{net};
 ghost use Rattle.growth.specs.Work.{withWork, workOf};
 ghost use Rattle.game.specs.Table.{sum};
-ghost use Rattle.refusal.specs.Answer.{verdict};
+ghost use Rattle.moving.specs.Answer.{verdict};
 ghost use Rattle.refusal.specs.Outcome.{ended};
 ghost use Rattle.joining.specs.Join.{joinRefusal, joinOutcome};
 
@@ -73,7 +73,7 @@ fn add_table(table: &mut [u32], other: &[u32])
 }
 
 // Joins a second net into a first: the parents become those of the elimination game on the links of both, and the weights are
-// summed. The work tables take n, n and 2 n entries; they end as zeros.
+// summed. The work tables take n, n and 2 n entries; they end as zeros. Answers where the first net's forest moved.
 pub fn join(
     parents: &mut [u32],
     weights: &mut [u32],
@@ -82,7 +82,7 @@ pub fn join(
     ends: &mut [u32],
     jump: &mut [u32],
     lower: &mut [u32],
-) -> Answer
+) -> GrowthAnswer
     ensures { λ r. ⌜
         ended (verdict r) (withWork (net (now (parents .exit)) (now (weights .exit))) (workOf (now (ends .exit)) (now (jump .exit)) (now (lower .exit))))
         ≡ joinOutcome (withWork (net (now (parents .entry)) (now (weights .entry))) (workOf (now (ends .entry)) (now (jump .entry)) (now (lower .entry))))
@@ -98,10 +98,11 @@ pub fn join(
         lower,
     );
     if code != 0 {
-        return Answer::Refused(code);
+        return GrowthAnswer::Refused(code);
     }
     add_table(weights, other_weights);
     bucket::file_links(parents, other_parents, ends, lower);
-    growth::regrow(parents, ends, jump, lower);
-    Answer::Accepted
+    let lowest = growth::regrow(parents, ends, jump, lower);
+    let moved = moving::moved_at(lowest);
+    GrowthAnswer::Accepted(moved)
 }

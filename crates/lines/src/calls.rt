@@ -46,7 +46,7 @@ pub fn add() {
         front(&mut jump, j),
         front(&mut lower, l),
     );
-    script::answer(a);
+    script::growth_answer(a);
     script::net(&parents, n, &weights, w);
     script::work(&ends, e, &jump, j, &lower, l);
 }
@@ -76,7 +76,7 @@ pub fn join() {
         front(&mut jump, j),
         front(&mut lower, l),
     );
-    script::answer(a);
+    script::growth_answer(a);
     script::net(&parents, n, &weights, w);
     script::work(&ends, e, &jump, j, &lower, l);
 }

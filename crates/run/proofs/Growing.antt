@@ -15,6 +15,7 @@ use Rattle.refusal.specs.Refusal.{badCount, firstFault}
 use Rattle.refusal.specs.Verdict.{Verdict}
 use Rattle.refusal.specs.Outcome.{Outcome, ended, decided}
 use Rattle.refusal.proofs.First.{pass, first-last, right-length, even-list, unless-accepted}
+use Rattle.moving.specs.declared.Moved.{Moved}
 use Rattle.growth.specs.Work.{Work, workOf, NetWithWork, withWork}
 use Rattle.starting.specs.Start.{startOutcome}
 use Rattle.adding.specs.Add.{addOutcome}
@@ -89,7 +90,7 @@ module _ {o xs ranks p w v e j l : List ℕ} (r : Runnable o xs) (room : GrowRoo
         }
 
     -- all calls together
-    pub all-grown : {m′ m″ : Verdict (Unit {0})} {p′ w′ p″ w″ e″ j″ l″ : List ℕ} → ended m′ (net p′ w′) ≡ startOutcome (net p w)
+    pub all-grown : {m′ : Verdict (Unit {0})} {m″ : Verdict Moved} {p′ w′ p″ w″ e″ j″ l″ : List ℕ} → ended m′ (net p′ w′) ≡ startOutcome (net p w)
         → ended m″ (withWork (net p″ w″) (workOf e″ j″ l″)) ≡ addOutcome (withWork (net p′ w′) (workOf e j l)) ranks′
         → Grown o xs ranks′ (net p″ w″)
     all-grown s a =

@@ -18,6 +18,7 @@ pub use writing::front;
 pub use writing::front_bytes;
 pub use writing::front_of;
 pub use writing::front_of_bytes;
+pub use writing::growth_answer;
 pub use writing::net;
 pub use writing::refused;
 pub use writing::table;

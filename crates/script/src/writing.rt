@@ -1,6 +1,8 @@
 // Tables lent in part, and written.
 use crate::reading::MOST;
 use libc::STDOUT_FILENO;
+use moving::GrowthAnswer;
+use moving::Moved;
 use net::Net;
 use refusal::Answer;
 ghost use Prim.Native.Nat.{_≤_};
@@ -149,6 +151,27 @@ pub fn answer(a: Answer) {
             io::write_all(STDOUT_FILENO, b"  accepted ;");
         }
         Answer::Refused(number) => refused(number),
+    }
+}
+
+fn moved(m: Moved) {
+    match m {
+        Moved::Lowest(rank) => {
+            io::write_all(STDOUT_FILENO, b"  accepted, moved");
+            entry(rank);
+            io::write_all(STDOUT_FILENO, b" ;");
+        }
+        Moved::Nothing => {
+            io::write_all(STDOUT_FILENO, b"  accepted, none moved ;");
+        }
+    }
+}
+
+// The answer of a call that answers where the forest moved.
+pub fn growth_answer(a: GrowthAnswer) {
+    match a {
+        GrowthAnswer::Accepted(m) => moved(m),
+        GrowthAnswer::Refused(number) => refused(number),
     }
 }
 

@@ -1,4 +1,4 @@
-use Rattle.exports.proofs.Answered.{handed-as}
+use Rattle.exports.proofs.Answered.{filled-as}
 use borrow.Author.Needs.{needs}
 use Rattle.exports.proofs.niqastul_add.Statement.{statement}
 use Rattle.exports.proofs.niqastul_add.Tie as tie
@@ -6,8 +6,8 @@ use Rattle.exports.proofs.niqastul_add.Tie as tie
 add-requires : tie.Need-add-requires
 add-requires c κs = search needs
 
-code-requires : tie.Need-code-requires
-code-requires c κs = search needs
+hand-rank-requires : tie.Need-hand-rank-requires
+hand-rank-requires c κs = search needs
 
 same-length : tie.Need-same-length
 same-length c = search needs
@@ -25,14 +25,14 @@ same-length-5 : tie.Need-same-length-5
 same-length-5 c = search needs
 
 returns : tie.Need-returns
-returns c = handed-as (c .code .ensures) (c .before .before .before .before .before .before .before .before .before .before .before .add .ensures)
+returns c = filled-as _ _ (c .hand-rank .ensures .0) (c .hand-rank .ensures .1) (c .before .before .before .before .before .before .before .before .before .before .before .before .add .ensures)
 
 pub niqastul-add-spec : {M : Type 1} → statement M
 niqastul-add-spec =
     tie.close
     (tie.spec
     add-requires
-    code-requires
+    hand-rank-requires
     same-length
     same-length-2
     same-length-3

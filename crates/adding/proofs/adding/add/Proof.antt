@@ -1,10 +1,10 @@
 use mathlib.Core.Path.{refl, sym, _∙_}
 use native.Mathlib.Omega.{arith}
-use Rattle.refusal.specs.Answer.{verdict}
+use Rattle.moving.specs.Answer.{verdict}
 use Rattle.refusal.proofs.Ends.{ends-refused, ends-accepted}
 use Rattle.adding.specs.Add.{addOutcome}
 use Rattle.adding.proofs.Accepted.{addable}
-use Rattle.adding.proofs.Outcomes.{add-extendable, add-weighable, add-ends}
+use Rattle.adding.proofs.Outcomes.{add-extendable, add-weighable, add-ends, add-moved}
 use Rattle.adding.proofs.Steps.{counted-light, list-decides, list-refused, list-counted}
 use borrow.Author.Needs.{needs}
 use Rattle.adding.proofs.adding.add.Statement.{statement}
@@ -70,6 +70,9 @@ extend-requires c κs =
     let a = addable _ _ (sym (list-decides o (r .read-list .ensures)) ∙ z) in
     (add-extendable a (r .read-list .kept .1 .0), add-weighable a, list-counted o (r .read-list .ensures) z)
 
+moved-at-requires : tie.Need-moved-at-requires
+moved-at-requires c κs = search needs
+
 same-length-11 : tie.Need-same-length-11
 same-length-11 c = search needs
 
@@ -88,10 +91,12 @@ same-length-15 c = search needs
 returns-3 : tie.Need-returns-3
 unfolding verdict addOutcome
 returns-3 c =
-    let r : tie.After-read-list = c .before .before .before .before .before .before .before .before .before .before .before .before .before .before .before .before .before .before .before in
-    let o = c .before .before .before .before .before .before .before .before .before .before .before .before .before .before .before .before .before .before .before .before .before .before .before .before .before .read-tables .ensures .passed (c .before .before .before .before .before .before .before .before .before .before .before .before .before .before .before .before .before .before .before .before .before .before .before .if1 .left) in
-    let z = sym (list-decides o (r .read-list .ensures)) ∙ c .before .before .before .before .before .before .before .before .before .before .before .before .before .before .before .before .if2 .left in
-    ends-accepted _ _ _ _ refl z (add-ends (addable _ _ z) (r .read-list .kept .1 .0) (c .before .before .before .before .before .before .before .before .before .before .extend .ensures))
+    let r : tie.After-read-list = c .before .before .before .before .before .before .before .before .before .before .before .before .before .before .before .before .before .before .before .before in
+    let o = c .before .before .before .before .before .before .before .before .before .before .before .before .before .before .before .before .before .before .before .before .before .before .before .before .before .before .read-tables .ensures .passed (c .before .before .before .before .before .before .before .before .before .before .before .before .before .before .before .before .before .before .before .before .before .before .before .before .if1 .left) in
+    let z = sym (list-decides o (r .read-list .ensures)) ∙ c .before .before .before .before .before .before .before .before .before .before .before .before .before .before .before .before .before .if2 .left in
+    let a = addable _ _ z in
+    let (x, t, d) = c .before .before .before .before .before .before .before .before .before .before .before .extend .ensures in
+    ends-accepted _ _ _ _ (add-moved a x d (c .moved-at .ensures)) z (add-ends a (r .read-list .kept .1 .0) (x, t))
 
 pub add-spec : {M : Type 1} → statement M
 add-spec =
@@ -113,6 +118,7 @@ add-spec =
     same-length-10
     returns-2
     extend-requires
+    moved-at-requires
     same-length-11
     same-length-12
     same-length-13

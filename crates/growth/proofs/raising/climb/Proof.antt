@@ -8,35 +8,39 @@ use Rattle.game.specs.Edge.{Edge}
 use Rattle.game.proofs.Conn.{Conn}
 use Rattle.game.specs.Game.{absent}
 use Rattle.growth.specs.Growth.{Upward, Standing, Climbing, newParents, Untouched}
+use Rattle.growth.specs.Moves.{Moves}
 use Rattle.growth.proofs.NewParents.{untouched-none, untouched-pass, untouched-link, untouched-on}
+use Rattle.growth.proofs.Moves.{moves-none, moves-on, moves-pass, moves-link}
 use Rattle.growth.proofs.Climb.{climb-start, climb-jump, climb-root, climb-done, upward-set, upward-next}
 use borrow.Author.Needs.{needs}
 use Rattle.growth.proofs.raising.climb.Statement.{statement}
 use Rattle.growth.proofs.raising.climb.Tie as tie
 
 -- where the climb stands, for whatever graph the tables stand for
-record Turn (u y : ℕ) (was jumps p jump : List ℕ) (w : ℕ) : Type 0 where
+record Turn (u y moved : ℕ) (was jumps p jump : List ℕ) (w : ℕ) : Type 0 where
   same : length p ≡ length was
   top : y < length was
   real : y ≢ absent
   upward : Upward (length was) jump
   untouched : Untouched was jumps p jump
+  moves : Moves was jumps moved p jump moved
   climbing : (E : List Edge) → Standing (length was) E y 0 (newParents was jumps) jumps → u < y → Conn E y u y → Climbing (length was) E y u w (newParents was jumps) (newParents p jump) jump
 
 abbrev Inv-loop : tie.InvT-loop
-Inv-loop u y parents₀ jump₀ w₀ parents jump w = Turn u y parents₀ jump₀ parents jump w
+Inv-loop u y parents₀ jump₀ moved w₀ parents jump w = Turn u y moved parents₀ jump₀ parents jump w
 
 abbrev μ-loop : tie.MeasureT-loop
-μ-loop u y parents₀ jump₀ w₀ parents jump w = y - w
+μ-loop u y parents₀ jump₀ moved w₀ parents jump w = y - w
 
 loop-holds : tie.Need-loop-holds Inv-loop μ-loop
 loop-holds c = record {
   same = refl;
-  top = c .pre .0;
-  real = omega (arith, c .pre .0, c .pre .1);
-  upward = c .pre .2;
+  top = c .before .before .pre .0;
+  real = omega (arith, c .before .before .pre .0, c .before .before .pre .1);
+  upward = c .before .before .pre .2;
   untouched = untouched-none _ _;
-  climbing = λ E s l e. climb-start s (c .pre .0) l e;
+  moves = moves-none _ _ _;
+  climbing = λ E s l e. climb-start s (c .before .before .pre .0) l e;
 }
 
 cast-at : tie.Need-cast-at Inv-loop μ-loop
@@ -54,24 +58,29 @@ mul-jump c = search needs
 slice-write-jump : tie.Need-slice-write-jump Inv-loop μ-loop
 slice-write-jump c = search needs
 
-mul-parents : tie.Need-mul-parents Inv-loop μ-loop
-mul-parents c = search needs
-
-slice-write-parents : tie.Need-slice-write-parents Inv-loop μ-loop
-slice-write-parents c = search needs
+link-requires : tie.Need-link-requires Inv-loop μ-loop
+link-requires c κs = search needs
 
 same-length : tie.Need-same-length Inv-loop μ-loop
 same-length c = search needs
 
 same-length-2 : tie.Need-same-length-2 Inv-loop μ-loop
-same-length-2 c = simp length-set (omega (arith, c .before .before .before .before .pre .2 .long))
+same-length-2 c = simp length-set (omega (arith, c .before .before .before .before .before .before .before .loop .inv .upward .long, c .before .before .before .before .before .before .before .before .before .before .pre .2 .long))
 
 returns : tie.Need-returns Inv-loop μ-loop
-returns c = record {
-  upward = upward-set _ _ (c .before .before .loop-test .taken) (c .before .before .before .loop .inv .upward);
-  untouched = untouched-on (c .before .before .before .loop .inv .untouched) (untouched-link _ _ (omega (arith, c .before .before .loop-test .taken, c .before .before .before .loop .inv .top, c .before .before .before .loop .inv .upward .long)) (c .before .before .before .loop .inv .real));
-  climbed = λ E s l e. climb-root _ (c .before .before .before .loop .inv .climbing E s l e) (c .before .before .loop-test .taken) (c .if1 .taken);
-}
+returns c =
+    let t = c .before .before .before .before .before .before .before .loop .inv in
+    let low = c .before .before .before .before .before .before .loop-test .taken in
+    let none = c .before .before .before .before .if1 .taken in
+    let inside : c .before .before .before .before .before .before .before .loop .w < length (c .before .before .before .before .before .before .before .loop .jump) = omega (arith, low, t .top, t .upward .long) in
+    rw (c .before .before .link .ensures .0, c .before .before .link .ensures .1) (
+      record {
+        upward = upward-set _ _ low (t .upward);
+        untouched = untouched-on (t .untouched) (untouched-link _ _ inside (t .real));
+        climbed = λ E s l e. climb-root _ (t .climbing E s l e) low none;
+      },
+      moves-on (t .moves) (moves-link _ _ _ inside (t .real) none (omega (arith, low, t .top, t .same))),
+    )
 
 loop-less : tie.Need-loop-less Inv-loop μ-loop
 loop-less c =
@@ -83,6 +92,7 @@ loop-again c = record {
   top = c .before .before .before .loop .inv .top;
   real = c .before .before .before .loop .inv .real;
   untouched = untouched-on (c .before .before .before .loop .inv .untouched) (untouched-pass _ _ (omega (arith, c .before .before .loop-test .taken, c .before .before .before .loop .inv .top, c .before .before .before .loop .inv .upward .long)) (c .before .before .before .loop .inv .real));
+  moves = moves-on (c .before .before .before .loop .inv .moves) (moves-pass _ _ _ (omega (arith, c .before .before .loop-test .taken, c .before .before .before .loop .inv .top, c .before .before .before .loop .inv .upward .long)) (c .before .before .before .loop .inv .real));
   upward = upward-set _ _ (c .before .before .loop-test .taken) (c .before .before .before .loop .inv .upward);
   climbing = λ E s l e. climb-jump _ (c .before .before .before .loop .inv .climbing E s l e) (c .before .before .loop-test .taken) (c .if1 .left);
 }
@@ -94,11 +104,9 @@ same-length-4 : tie.Need-same-length-4 Inv-loop μ-loop
 same-length-4 c = search needs
 
 returns-2 : tie.Need-returns-2 Inv-loop μ-loop
-returns-2 c = record {
-  upward = c .before .loop .inv .upward;
-  untouched = c .before .loop .inv .untouched;
-  climbed = λ E s l e. climb-done (c .before .loop .inv .climbing E s l e) (c .loop-test .left);
-}
+returns-2 c =
+    let t = c .before .loop .inv in
+    (record { upward = t .upward; untouched = t .untouched; climbed = λ E s l e. climb-done (t .climbing E s l e) (c .loop-test .left) }, t .moves)
 
 pub climb-spec : {M : Type 1} → statement M
 climb-spec =
@@ -112,8 +120,7 @@ climb-spec =
     slice-read-next
     mul-jump
     slice-write-jump
-    mul-parents
-    slice-write-parents
+    link-requires
     same-length
     same-length-2
     returns

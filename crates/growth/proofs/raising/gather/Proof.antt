@@ -5,7 +5,9 @@ use mathlib.Core.List.{List}
 use Rattle.game.specs.Edge.{Edge}
 use mathlib.Core.Bool.{Bool}
 use Rattle.growth.specs.Growth.{Upward, Standing, Offers, Gathered, Weighs, ReadUpTo, newParents, Untouched}
+use Rattle.growth.specs.Moves.{Moves}
 use Rattle.growth.proofs.NewParents.{untouched-none, untouched-on}
+use Rattle.growth.proofs.Moves.{moves-none, moves-on}
 use Rattle.growth.proofs.Raise.{gather-start, gather-climb, gather-end}
 use Rattle.growth.proofs.Weigh.{weighs-none, weighs-room, weighs-next, read-start, read-ahead, read-turn, read-end}
 use native.Mathlib.Omega.{arith}
@@ -15,22 +17,23 @@ use Rattle.growth.proofs.raising.gather.Statement.{statement}
 use Rattle.growth.proofs.raising.gather.Tie as tie
 
 -- the first i vertices of the bucket are gathered, for whatever graph the tables stand for
-record Turn (y : ℕ) (keep : Bool) (was weights₀ before jumps bucket weights p jump : List ℕ) (i : ℕ) : Type 0 where
+record Turn (y : ℕ) (keep : Bool) (was weights₀ before jumps : List ℕ) (moved : ℕ) (bucket weights p jump : List ℕ) (lowest i : ℕ) : Type 0 where
   same : length p ≡ length before
   upward : Upward (length before) jump
   reading : ReadUpTo keep was i bucket
   weighed : Weighs (take i was) weights₀ weights
   untouched : Untouched before jumps p jump
+  moves : Moves before jumps moved p jump lowest
   gathered : (E : List Edge) → Standing (length before) E y 0 (newParents before jumps) jumps → Offers E y was → Gathered (length before) E y i was (newParents before jumps) (newParents p jump) jump
 
 abbrev Inv-loop : tie.InvT-loop
-Inv-loop y keep bucket₀ weights₀ parents₀ jump₀ i₀ bucket weights parents jump i = Turn y keep bucket₀ weights₀ parents₀ jump₀ bucket weights parents jump i
+Inv-loop y keep bucket₀ weights₀ parents₀ jump₀ moved lowest₀ i₀ bucket weights parents jump lowest i = Turn y keep bucket₀ weights₀ parents₀ jump₀ moved bucket weights parents jump lowest i
 
 abbrev μ-loop : tie.MeasureT-loop
-μ-loop y keep bucket₀ weights₀ parents₀ jump₀ i₀ bucket weights parents jump i = length bucket₀ - i
+μ-loop y keep bucket₀ weights₀ parents₀ jump₀ moved lowest₀ i₀ bucket weights parents jump lowest i = length bucket₀ - i
 
 loop-holds : tie.Need-loop-holds Inv-loop μ-loop
-loop-holds c = record { same = refl; upward = c .before .before .before .before .pre .2; untouched = untouched-none _ _; reading = read-start _ _; weighed = weighs-none _; gathered = λ E s o. gather-start s }
+loop-holds c = record { same = refl; upward = c .before .before .before .before .pre .2; untouched = untouched-none _ _; moves = moves-none _ _ _; reading = read-start _ _; weighed = weighs-none _; gathered = λ E s o. gather-start s }
 
 mul-u : tie.Need-mul-u Inv-loop μ-loop
 mul-u c = search needs
@@ -66,7 +69,7 @@ loop-less c = search needs
 loop-again : tie.Need-loop-again Inv-loop μ-loop
 loop-again c =
     let t = c .before .before .before .before .before .before .before .before .before .before .before .before .before .before .loop .inv in
-    let k = c .before .before .before .before .climb .ensures in
+    let k = c .before .before .before .before .climb .ensures .0 in
     let here : c .before .before .before .before .before .before .before .before .before .before .before .before .before .before .loop .i < length (c .before .before .before .before .before .before .before .before .before .before .before .before .before .before .loop .bucket) = c .before .before .before .before .before .before .before .before .before .before .before .before .before .loop-test .taken in
     let inside : c .before .before .before .before .before .before .before .before .before .before .before .before .before .before .loop .i < length (c .before .before .before .before .before .before .before .before .before .before .before .before .before .before .before .before .before .before .before .args .bucket .now) = omega (arith, t .reading .long) in
     let u = read-ahead (t .reading) here in
@@ -76,6 +79,7 @@ loop-again c =
       reading = read-turn (t .reading) here u (c .before .before .before .before .before .before .before .before .before .before .before .left .ensures);
       weighed = weighs-next _ _ (t .weighed) inside u (c .before .before .before .before .before .before .before .before .before .weigh .ensures);
       untouched = untouched-on (t .untouched) (k .untouched);
+      moves = moves-on (t .moves) (c .before .before .before .before .climb .ensures .1);
       gathered = λ E s o. gather-climb (t .same) u k (o .offer _ inside) (t .gathered E s o);
     }
 
@@ -94,14 +98,16 @@ same-length-4 c = search needs
 returns : tie.Need-returns Inv-loop μ-loop
 returns c =
     let t = c .before .loop .inv in
-    let done : c .before .loop .i ≡ length (c .before .before .before .before .before .before .args .bucket .now) = omega (arith, c .loop-test .left, t .reading .long, t .reading .inside) in
-    record {
-      upward = t .upward;
-      untouched = t .untouched;
-      leaves = read-end (t .reading) (c .loop-test .left);
-      weighed = rw (done, take-length) at (t .weighed);
-      gathered = λ E s o. gather-end (omega (arith, done)) (t .gathered E s o);
-    }
+    let done : c .before .loop .i ≡ length (c .before .before .before .before .before .before .args .bucket .now) = omega (arith, c .loop-test .left, t .reading .long, t .reading .inside) in (
+      record {
+        upward = t .upward;
+        untouched = t .untouched;
+        leaves = read-end (t .reading) (c .loop-test .left);
+        weighed = rw (done, take-length) at (t .weighed);
+        gathered = λ E s o. gather-end (omega (arith, done)) (t .gathered E s o);
+      },
+      t .moves,
+    )
 
 pub gather-spec : {M : Type 1} → statement M
 gather-spec =

@@ -3,6 +3,7 @@ use Prim.Native.Nat.{ℕ}
 use lib.ListN.{replicate}
 use Rattle.game.specs.Game.{absent}
 use Rattle.growth.proofs.NewParents.{new-whole}
+use Rattle.growth.proofs.Moves.{moves-differ}
 use Rattle.growth.proofs.Rooms.{same-room}
 use Rattle.growth.proofs.Weigh.{read-cleared, weighs-graph}
 use native.Mathlib.Omega.{arith}
@@ -25,7 +26,7 @@ raise-requires c κs =
 
 clear-requires : tie.Need-clear-requires
 clear-requires c κs =
-    let r = c .before .before .before .before .before .before .before .before .before .before .before .raise .ensures .leaves in
+    let r = c .before .before .before .before .before .before .before .before .before .before .before .raise .ensures .0 .leaves in
     (omega (arith, r .inside, r .long), read-cleared r)
 
 same-length : tie.Need-same-length
@@ -45,12 +46,14 @@ same-length-5 c = search needs
 
 returns : tie.Need-returns
 returns c =
-    let r = c .before .before .before .before .before .before .before .before .before .before .before .before .before .before .before .before .before .before .raise .ensures in
-    let g = c .before .before .before .before .before .before .before .before .before .before .before .before .before .before .before .before .before .before .before .before .before .before .before .before .before .before .before .before .before .before .before .before .before .pre .0 in
-    record {
-      grown = record { parents = λ E k f i. new-whole (omega (arith, g .buckets .few)) k (g .long) (c .before .before .before .before .before .before .before .before .before .before .before .before .before .before .before .before .before .before .raise .kept .1 .1 .1 .1 .0 ∙ g .long) i (r .untouched) (r .raised E k f); weighed = λ E f. weighs-graph f (r .last) (r .weighed) };
-      clear = c .before .before .before .before .before .before .clear .ensures ∙ same-room _ _ _ _ _ _ refl (c .before .before .before .before .before .before .before .before .before .before .before .before .before .before .before .before .before .before .raise .kept .1 .1 .1 .1 .1 .0 ∙ c .before .before .before .before .before .before .before .before .before .before .before .before .before .before .before .before .before .before .before .before .before .before .before .before .before .before .fill .kept .0) (c .before .before .before .before .before .before .before .before .before .before .before .before .before .before .before .before .before .before .raise .kept .1 .1 .0);
-    }
+    let r = c .before .before .before .before .before .before .before .before .before .before .before .before .before .before .before .before .before .before .raise .ensures .0 in
+    let g = c .before .before .before .before .before .before .before .before .before .before .before .before .before .before .before .before .before .before .before .before .before .before .before .before .before .before .before .before .before .before .before .before .before .pre .0 in (
+      record {
+        grown = record { parents = λ E k f i. new-whole (omega (arith, g .buckets .few)) k (g .long) (c .before .before .before .before .before .before .before .before .before .before .before .before .before .before .before .before .before .before .raise .kept .1 .1 .1 .1 .0 ∙ g .long) i (r .untouched) (r .raised E k f); weighed = λ E f. weighs-graph f (r .last) (r .weighed) };
+        clear = c .before .before .before .before .before .before .clear .ensures ∙ same-room _ _ _ _ _ _ refl (c .before .before .before .before .before .before .before .before .before .before .before .before .before .before .before .before .before .before .raise .kept .1 .1 .1 .1 .1 .0 ∙ c .before .before .before .before .before .before .before .before .before .before .before .before .before .before .before .before .before .before .before .before .before .before .before .before .before .before .fill .kept .0) (c .before .before .before .before .before .before .before .before .before .before .before .before .before .before .before .before .before .before .raise .kept .1 .1 .0);
+      },
+      moves-differ (c .before .before .before .before .before .before .before .before .before .before .before .before .before .before .before .before .before .before .raise .ensures .1),
+    )
 
 pub grow-spec : {M : Type 1} → statement M
 grow-spec =

@@ -9,7 +9,9 @@ use Rattle.sorting.specs.Sorted.{begin}
 use Rattle.bucket.specs.Filed.{Filed}
 use Rattle.bucket.proofs.Reading.{begin-next, filed-part}
 use Rattle.growth.specs.Growth.{Upward, Weighs, Raised, ReadUpTo, newParents, Untouched}
+use Rattle.growth.specs.Moves.{Moves}
 use Rattle.growth.proofs.NewParents.{new-blank, untouched-none, untouched-on}
+use Rattle.growth.proofs.Moves.{moves-none, moves-on}
 use Rattle.growth.proofs.Climb.{upward-blank}
 use Rattle.growth.proofs.Raise.{raise-start, raise-gather, raise-end}
 use Rattle.growth.proofs.Weigh.{weighs-none, weighs-room, weighs-stretch, part-length, read-start, read-part, read-on}
@@ -20,7 +22,7 @@ use Rattle.growth.proofs.raising.raise.Statement.{statement}
 use Rattle.growth.proofs.raising.raise.Tie as tie
 
 -- the vertices below y are raised, for whatever graph is filed
-record Turn (keep : Bool) (ends was weights₀ before jumps lower weights p jump : List ℕ) (at y : ℕ) : Type 0 where
+record Turn (keep : Bool) (ends was weights₀ before jumps lower weights p jump : List ℕ) (moved at y : ℕ) : Type 0 where
   same : length p ≡ length ends
   upward : Upward (length ends) jump
   within : y ≤ length ends
@@ -28,13 +30,14 @@ record Turn (keep : Bool) (ends was weights₀ before jumps lower weights p jump
   reading : ReadUpTo keep was at lower
   weighed : Weighs (take at was) weights₀ weights
   untouched : Untouched before jumps p jump
+  moves : Moves before jumps absent p jump moved
   raised : (E : List Edge) → Proper (length ends) E → Filed (length ends) E ends was → Raised (length ends) E y (newParents p jump) jump
 
 abbrev Inv-loop : tie.InvT-loop
-Inv-loop keep ends lower₀ weights₀ parents₀ jump₀ at₀ y₀ lower weights parents jump at y = Turn keep ends lower₀ weights₀ parents₀ jump₀ lower weights parents jump at y
+Inv-loop keep ends lower₀ weights₀ parents₀ jump₀ moved₀ at₀ y₀ lower weights parents jump moved at y = Turn keep ends lower₀ weights₀ parents₀ jump₀ lower weights parents jump moved at y
 
 abbrev μ-loop : tie.MeasureT-loop
-μ-loop keep ends lower₀ weights₀ parents₀ jump₀ at₀ y₀ lower weights parents jump at y = length ends - y
+μ-loop keep ends lower₀ weights₀ parents₀ jump₀ moved₀ at₀ y₀ lower weights parents jump moved at y = length ends - y
 
 loop-holds : tie.Need-loop-holds Inv-loop μ-loop
 unfolding begin
@@ -43,6 +46,7 @@ loop-holds c =
     record {
       same = b .long;
       untouched = untouched-none _ _;
+      moves = moves-none _ _ _;
       upward = subst (Upward _) (sym (b .blank-jump)) (upward-blank _);
       within = omega arith;
       start = refl;
@@ -122,7 +126,7 @@ loop-again c =
     let b = c .before .before .before .before .before .before .before .before .before .before .before .before .before .before .before .before .before .before .before .before .before .before .pre .buckets in
     let order : c .before .before .before .before .before .before .before .before .before .before .before .before .before .before .before .before .loop .at ≤ c .before .before .before .before .before .before .before .before .before .before .before .before .before .wide .result = omega (arith, t .start, b .rising _ here, c .before .before .before .before .before .before .before .before .before .before .before .before .before .wide .ensures) in
     let room : c .before .before .before .before .before .before .before .before .before .before .before .before .before .wide .result ≤ length (c .before .before .before .before .before .before .before .before .before .before .before .before .before .before .before .before .loop .lower) = omega (arith, t .reading .long, b .room _ here, c .before .before .before .before .before .before .before .before .before .before .before .before .before .wide .ensures) in
-    let g = c .before .before .before .before .before .before .before .before .gather .ensures in
+    let g = c .before .before .before .before .before .before .before .before .gather .ensures .0 in
     record {
       same = c .before .before .before .before .before .before .before .before .gather .kept .1 .1 .1 .1 .0 ∙ t .same;
       upward = subst (λ (m : ℕ). Upward m (c .before .before .before .before .before .before .before .before .gather .last .1 .1 .1 .1 .1 .0)) (t .same) (g .upward);
@@ -131,6 +135,7 @@ loop-again c =
       reading = read-on (t .reading) _ order room (g .leaves);
       weighed = weighs-stretch _ _ _ order (t .weighed) (rw (read-part (t .reading) (c .before .before .before .before .before .before .before .before .before .before .before .before .before .wide .result - c .before .before .before .before .before .before .before .before .before .before .before .before .before .before .before .before .loop .at)) at (g .weighed));
       untouched = untouched-on (t .untouched) (g .untouched);
+      moves = moves-on (t .moves) (c .before .before .before .before .before .before .before .before .gather .ensures .1);
       raised = λ E k f. raise-gather (t .same) (read-part (t .reading) (c .before .before .before .before .before .before .before .before .before .before .before .before .before .wide .result - c .before .before .before .before .before .before .before .before .before .before .before .before .before .before .before .before .loop .at) ∙ filed-part f _ here (t .start) (c .before .before .before .before .before .before .before .before .before .before .before .before .before .wide .ensures)) g k (t .raised E k f);
     }
 
@@ -149,14 +154,16 @@ same-length-4 c = c .before .loop .inv .upward .long ∙ sym (ap length (c .befo
 returns : tie.Need-returns Inv-loop μ-loop
 returns c =
     let t = c .before .loop .inv in
-    let done : c .before .loop .y ≡ length (c .before .before .before .before .before .before .before .args .ends .now) = omega (arith, c .loop-test .left, t .within) in
-    record {
-      untouched = t .untouched;
-      raised = λ E k f. raise-end k (c .loop-test .left) (t .raised E k f);
-      last = t .start ∙ ap (begin _) done;
-      weighed = t .weighed;
-      leaves = t .reading;
-    }
+    let done : c .before .loop .y ≡ length (c .before .before .before .before .before .before .before .args .ends .now) = omega (arith, c .loop-test .left, t .within) in (
+      record {
+        untouched = t .untouched;
+        raised = λ E k f. raise-end k (c .loop-test .left) (t .raised E k f);
+        last = t .start ∙ ap (begin _) done;
+        weighed = t .weighed;
+        leaves = t .reading;
+      },
+      t .moves,
+    )
 
 pub raise-spec : {M : Type 1} → statement M
 raise-spec =

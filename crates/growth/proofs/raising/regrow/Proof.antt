@@ -22,7 +22,7 @@ same-length-4 : tie.Need-same-length-4
 same-length-4 c = search needs
 
 returns : tie.Need-returns
-returns c = let g = c .before .before .before .before .before .before .before .before .before .grow .ensures in record { grown = g .grown .parents; clear = g .clear }
+returns c = let g = c .before .before .before .before .before .before .before .before .before .grow .ensures in (record { grown = g .0 .grown .parents; clear = g .0 .clear }, g .1)
 
 pub regrow-spec : {M : Type 1} → statement M
 regrow-spec =

@@ -48,12 +48,13 @@ returns c =
     let s : tie.Start = c .before .before .before .before .before .before .before .before .before .before .before .before .before .before .before .before .before .before .before .before .before .before .before .before .before .before .before .before .before .before .before .before in
     let d : tie.After-file-counted = c .before .before .before .before .before .before .before .before .before .before .before .before .before .before .before .before .before .before .before .before in
     let blank = c .before .before .before .before .before .before .before .before .before .before .before .before .before .before .before .before .before .before .before .before .before .before .before .before .is-all .ensures (c .before .before .before .before .before .before .before .before .before .before .before .before .before .before .before .before .before .before .before .before .before .before .before .if1 .taken) in
-    let g = grown-filed (d .file-counted .ensures) (links-blank _ blank) (c .before .before .before .before .before .before .before .before .before .before .grow .ensures .grown) in (
+    let g = grown-filed (d .file-counted .ensures) (links-blank _ blank) (c .before .before .before .before .before .before .before .before .before .before .grow .ensures .0 .grown) in (
       record {
         grown = g .0 ∙ first-links _ blank (s .pre .0 .long);
-        clear = c .before .before .before .before .before .before .before .before .before .before .grow .ensures .clear ∙ same-room _ _ _ _ _ _ (d .file-counted .kept .1 .0) refl (d .file-counted .kept .1 .1 .0);
+        clear = c .before .before .before .before .before .before .before .before .before .before .grow .ensures .0 .clear ∙ same-room _ _ _ _ _ _ (d .file-counted .kept .1 .0) refl (d .file-counted .kept .1 .1 .0);
       },
       g .1,
+      c .before .before .before .before .before .before .before .before .before .before .grow .ensures .1,
     )
 
 tally-requires : tie.Need-tally-requires
@@ -92,10 +93,11 @@ returns-2 c =
     let e = c .before .before .before .before .before .before .before .before .before .before .before .before .before .before .before .before .before .before .before .before .before .before .before .before .before .before .before .before .before .before .before .before .before .before .pre .0 in
     let d : tie.After-file-counted-edges = c .before .before .before .before .before .before .before .before .before .before .before .before .before .before .before .before .before in (
       record {
-        grown = rest-grown e (put-none (e .table) (e .faultless)) refl (d .file-counted-edges .ensures) (c .before .before .before .before .before .before .before .before .regrow .ensures);
-        clear = c .before .before .before .before .before .before .before .before .regrow .ensures .clear ∙ same-room _ _ _ _ _ _ (d .file-counted-edges .kept .1 .1 .0) refl (d .file-counted-edges .kept .1 .1 .1 .0);
+        grown = rest-grown e (put-none (e .table) (e .faultless)) refl (d .file-counted-edges .ensures) (c .before .before .before .before .before .before .before .before .regrow .ensures .0);
+        clear = c .before .before .before .before .before .before .before .before .regrow .ensures .0 .clear ∙ same-room _ _ _ _ _ _ (d .file-counted-edges .kept .1 .1 .0) refl (d .file-counted-edges .kept .1 .1 .1 .0);
       },
       c .before .before .before .before .before .before .before .before .before .before .before .before .before .before .before .before .before .before .before .before .before .before .before .tally .ensures,
+      c .before .before .before .before .before .before .before .before .regrow .ensures .1,
     )
 
 pub grow-counted-spec : {M : Type 1} → statement M

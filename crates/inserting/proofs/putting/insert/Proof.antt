@@ -1,7 +1,8 @@
 use native.Mathlib.Omega.{arith}
 use mathlib.Core.Path.{refl, _∙_}
+use Rattle.moving.proofs.Fallen.{fallen-differ}
 use Rattle.growth.proofs.Regrown.{filed-growable}
-use Rattle.inserting.proofs.Put.{put-all, rest-part, rest-faultless, rest-room, rest-grown}
+use Rattle.inserting.proofs.Put.{put-all, rest-part, rest-faultless, rest-room, rest-grown, rest-moved}
 use Rattle.growth.proofs.Rooms.{same-room}
 use borrow.Author.Needs.{needs}
 use Rattle.inserting.proofs.putting.insert.Statement.{statement}
@@ -32,10 +33,14 @@ same-length-4 : tie.Need-same-length-4
 same-length-4 c = search needs
 
 returns : tie.Need-returns
-returns c = record {
-  grown = put-all (c .before .before .before .before .before .before .before .before .before .before .before .before .before .put-some .ensures) (omega (arith, c .before .before .before .before .before .before .before .before .before .before .before .before .before .before .before .before .before .before .before .before .before .pre .table .few)) (c .before .before .before .before .before .before .before .before .before .before .if1 .taken);
-  clear = c .before .before .before .before .before .before .clear .ensures;
-}
+returns c =
+    let p = c .before .before .before .before .before .before .before .before .before .before .before .before .before .put-some .ensures in (
+      record {
+        grown = put-all (p .0) (omega (arith, c .before .before .before .before .before .before .before .before .before .before .before .before .before .before .before .before .before .before .before .before .before .pre .table .few)) (c .before .before .before .before .before .before .before .before .before .before .if1 .taken);
+        clear = c .before .before .before .before .before .before .clear .ensures;
+      },
+      fallen-differ (p .1),
+    )
 
 mul-file-edges : tie.Need-mul-file-edges
 mul-file-edges c = search needs
@@ -51,13 +56,20 @@ part-file-edges-end c = search needs
 
 file-edges-requires : tie.Need-file-edges-requires
 file-edges-requires c κs =
-    let u = c .before .before .before .before .before .before .before .put-some .ensures in
-    (omega (arith, u .same, c .before .before .before .before .before .before .before .before .before .before .before .before .before .before .before .pre .long), (omega (arith, u .same, c .before .before .before .before .before .before .before .before .before .before .before .before .before .before .before .pre .table .few), (u .sound, (rest-faultless (c .before .before .before .before .before .before .before .before .before .before .before .before .before .before .before .pre) u (rest-part (c .before .before .before .before .before .before .before .before .before .before .before .before .before .before .before .args .edges .now) (c .before .before .before .before .before .before .before .put-some .result)), (rest-room (c .before .before .before .before .before .before .before .before .before .before .before .before .before .before .before .pre) u (rest-part (c .before .before .before .before .before .before .before .before .before .before .before .before .before .before .before .args .edges .now) (c .before .before .before .before .before .before .before .put-some .result)), omega (arith, c .before .before .before .before .before .before .before .before .before .before .before .before .before .before .before .pre .small))))))
+    let s : tie.Start = c .before .before .before .before .before .before .before .before .before .before .before .before .before .before .before in
+    let p : tie.After-put-some = c .before .before .before .before .before .before .before in
+    let u = p .put-some .ensures .0 in
+    let y = rest-part (s .args .edges .now) (p .put-some .result .count) in
+    (omega (arith, u .same, s .pre .long), (omega (arith, u .same, s .pre .table .few), (u .sound, (rest-faultless (s .pre) u y, (rest-room (s .pre) u y, omega (arith, s .pre .small))))))
 
 regrow-requires : tie.Need-regrow-requires
 regrow-requires c κs =
-    let u = c .before .before .before .before .before .before .before .before .before .before .before .before .before .before .before .before .put-some .ensures in
-    filed-growable (c .before .before .before .before .before .before .before .before .file-edges .ensures) (omega (arith, u .same, c .before .before .before .before .before .before .before .before .before .before .before .before .before .before .before .before .before .before .before .before .before .before .before .before .pre .table .few)) refl (omega (arith, u .same, c .before .before .before .before .before .before .before .before .before .before .before .before .before .before .before .before .before .before .before .before .before .before .before .before .pre .long-jump))
+    let s : tie.Start = c .before .before .before .before .before .before .before .before .before .before .before .before .before .before .before .before .before .before .before .before .before .before .before .before in
+    let u = c .before .before .before .before .before .before .before .before .before .before .before .before .before .before .before .before .put-some .ensures .0 in
+    filed-growable (c .before .before .before .before .before .before .before .before .file-edges .ensures) (omega (arith, u .same, s .pre .table .few)) refl (omega (arith, u .same, s .pre .long-jump))
+
+lower-requires : tie.Need-lower-requires
+lower-requires c κs = search needs
 
 same-length-5 : tie.Need-same-length-5
 same-length-5 c = search needs
@@ -72,10 +84,19 @@ same-length-8 : tie.Need-same-length-8
 same-length-8 c = search needs
 
 returns-2 : tie.Need-returns-2
-returns-2 c = record {
-  grown = rest-grown (c .before .before .before .before .before .before .before .before .before .before .before .before .before .before .before .before .before .before .before .before .before .before .before .before .before .before .before .before .before .before .before .before .before .pre) (c .before .before .before .before .before .before .before .before .before .before .before .before .before .before .before .before .before .before .before .before .before .before .before .before .before .put-some .ensures) (rest-part (c .before .before .before .before .before .before .before .before .before .before .before .before .before .before .before .before .before .before .before .before .before .before .before .before .before .before .before .before .before .before .before .before .before .args .edges .now) (c .before .before .before .before .before .before .before .before .before .before .before .before .before .before .before .before .before .before .before .before .before .before .before .before .before .put-some .result)) (c .before .before .before .before .before .before .before .before .before .before .before .before .before .before .before .before .before .file-edges .ensures) (c .before .before .before .before .before .before .before .before .regrow .ensures);
-  clear = c .before .before .before .before .before .before .before .before .regrow .ensures .clear ∙ same-room _ _ _ _ _ _ (c .before .before .before .before .before .before .before .before .before .before .before .before .before .before .before .before .before .file-edges .kept .1 .1 .0) refl (c .before .before .before .before .before .before .before .before .before .before .before .before .before .before .before .before .before .file-edges .kept .1 .1 .1 .0);
-}
+returns-2 c =
+    let s : tie.Start = c .before .before .before .before .before .before .before .before .before .before .before .before .before .before .before .before .before .before .before .before .before .before .before .before .before .before .before .before .before .before .before .before .before .before in
+    let p : tie.After-put-some = c .before .before .before .before .before .before .before .before .before .before .before .before .before .before .before .before .before .before .before .before .before .before .before .before .before .before in
+    let f : tie.After-file-edges = c .before .before .before .before .before .before .before .before .before .before .before .before .before .before .before .before .before .before in
+    let g = c .before .before .before .before .before .before .before .before .before .regrow .ensures in
+    let u = p .put-some .ensures .0 in
+    let y = rest-part (s .args .edges .now) (p .put-some .result .count) in (
+      record {
+        grown = rest-grown (s .pre) u y (f .file-edges .ensures) (g .0);
+        clear = g .0 .clear ∙ same-room _ _ _ _ _ _ (f .file-edges .kept .1 .1 .0) refl (f .file-edges .kept .1 .1 .1 .0);
+      },
+      rest-moved (s .pre) u y (f .file-edges .ensures) (g .0) (p .put-some .ensures .1) (g .1) (c .lower4 .ensures),
+    )
 
 pub insert-spec : {M : Type 1} → statement M
 insert-spec =
@@ -96,6 +117,7 @@ insert-spec =
     part-file-edges-end
     file-edges-requires
     regrow-requires
+    lower-requires
     same-length-5
     same-length-6
     same-length-7

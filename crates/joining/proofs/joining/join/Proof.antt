@@ -1,11 +1,11 @@
 use native.Mathlib.Omega.{arith}
 use mathlib.Core.Path.{refl, sym, _∙_}
 use Rattle.game.proofs.Sound.{true-sound}
-use Rattle.refusal.specs.Answer.{verdict}
+use Rattle.moving.specs.Answer.{verdict}
 use Rattle.refusal.proofs.Ends.{ends-refused, ends-accepted}
 use Rattle.joining.specs.Join.{joinOutcome}
 use Rattle.joining.proofs.Accepted.{joinable}
-use Rattle.joining.proofs.Outcomes.{join-ends}
+use Rattle.joining.proofs.Outcomes.{join-ends, join-moved}
 use Rattle.growth.proofs.Regrown.{filed-growable}
 use borrow.Author.Needs.{needs}
 use Rattle.joining.proofs.joining.join.Statement.{statement}
@@ -48,6 +48,9 @@ regrow-requires c κs =
     let a = joinable _ _ (sym (c .before .before .before .before .before .before .before .before .before .before .before .before .before .before .before .before .before .join-refusal .ensures) ∙ c .before .before .before .before .before .before .before .before .before .before .before .before .before .before .before .before .if1 .left) in
     filed-growable (c .before .before .before .before .before .before .before .before .file-links .ensures) (a .net .few) refl (a .work .jump)
 
+moved-at-requires : tie.Need-moved-at-requires
+moved-at-requires c κs = search needs
+
 same-length-6 : tie.Need-same-length-6
 same-length-6 c = search needs
 
@@ -66,9 +69,12 @@ same-length-10 c = search needs
 returns-2 : tie.Need-returns-2
 unfolding verdict joinOutcome
 returns-2 c =
-    let z = sym (c .before .before .before .before .before .before .before .before .before .before .before .before .before .before .before .before .before .before .before .before .before .before .before .before .before .before .join-refusal .ensures) ∙ c .before .before .before .before .before .before .before .before .before .before .before .before .before .before .before .before .before .before .before .before .before .before .before .before .before .if1 .left in
-    ends-accepted _ _ _ _ refl z
-    (join-ends (joinable _ _ z) (c .before .before .before .before .before .before .before .before .before .before .before .before .before .before .before .before .before .before .before .before .before .before .before .add-table .ensures) (c .before .before .before .before .before .before .before .before .before .before .before .before .before .before .before .before .before .file-links .ensures) (c .before .before .before .before .before .before .before .before .before .before .before .before .before .before .before .before .before .file-links .kept .1 .1 .0) (c .before .before .before .before .before .before .before .before .before .before .before .before .before .before .before .before .before .file-links .kept .1 .1 .1 .0) (c .before .before .before .before .before .before .before .before .regrow .ensures))
+    let z = sym (c .before .before .before .before .before .before .before .before .before .before .before .before .before .before .before .before .before .before .before .before .before .before .before .before .before .before .before .join-refusal .ensures) ∙ c .before .before .before .before .before .before .before .before .before .before .before .before .before .before .before .before .before .before .before .before .before .before .before .before .before .before .if1 .left in
+    let a = joinable _ _ z in
+    let f : tie.After-file-links = c .before .before .before .before .before .before .before .before .before .before .before .before .before .before .before .before .before .before in
+    let (g, d) = c .before .before .before .before .before .before .before .before .before .regrow .ensures in
+    ends-accepted _ _ _ _ (join-moved a (f .file-links .ensures) g d (c .moved-at .ensures)) z
+    (join-ends a (f .file-links .ensures) g (c .before .before .before .before .before .before .before .before .before .before .before .before .before .before .before .before .before .before .before .before .before .before .before .before .add-table .ensures) (f .file-links .kept .1 .1 .0) (f .file-links .kept .1 .1 .1 .0))
 
 pub join-spec : {M : Type 1} → statement M
 join-spec =
@@ -84,6 +90,7 @@ join-spec =
     add-table-requires
     file-links-requires
     regrow-requires
+    moved-at-requires
     same-length-6
     same-length-7
     same-length-8
