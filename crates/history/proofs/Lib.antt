@@ -2,3 +2,4 @@ pub mod Update
 pub mod Steps
 pub mod Theorem
 pub mod Sound
+pub mod Viewer

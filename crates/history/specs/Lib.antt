@@ -2,4 +2,5 @@
 pub mod World
 pub mod Book
 pub mod History
+pub mod Viewer
 pub mod Sound
