@@ -15,11 +15,16 @@ def start(t, n, *context):
     return after["parents"], after["weights"]
 
 
-def grow(t, name, net, others, *context):
-    """Adds or joins; answers the net afterwards, and where its forest moved."""
+def lend(t, name, net, others, *context):
+    """Adds or joins; answers the number and the tables afterwards."""
     given = {"parents": net[0], "weights": net[1], "moved": [77]} | others
     given |= {table: [77] * len(end) for table, end in PRESENT[name].work_end(given).items()}
-    number, after = PRESENT[name].run(t, given, *context)
+    return PRESENT[name].run(t, given, *context)
+
+
+def grow(t, name, net, others, *context):
+    """Adds or joins; answers the net afterwards, and where its forest moved."""
+    number, after = lend(t, name, net, others, *context)
     t.same(number, 0, *context)
     return (after["parents"], after["weights"]), after["moved"][0]
 
@@ -103,6 +108,22 @@ def grow_three_ways(t, rng, n, ties, context):
     t.same(join(t, first, second, context), whole, context)
     t.same(join(t, second, first, context), whole, context)
     add(t, nets.sound_net(rng, n), nets.flat(ties), context)
+
+
+@test(at_least=65_000)
+def rising_lists(t):
+    """Lists by rising upper end: the first of a net, onto the net of it, with an edge at the end that falls, and with a fault there."""
+    for seed in range(1200):
+        rng = random.Random(seed)
+        shape = nets.SHAPES[seed % len(nets.SHAPES)]
+        n = rng.randrange(2, 40)
+        ties = sorted(nets.ties(rng, n, shape), key=max)
+        empty = start(t, n, seed)
+        whole = add(t, empty, nets.flat(ties), seed)
+        add(t, whole, nets.flat(ties), seed)
+        add(t, empty, nets.flat(ties + ties[:1]), seed)
+        for number, fault in ((4, (0, n)), (4, (ABSENT, ABSENT)), (5, (n - 1, n - 1))):
+            t.same(lend(t, "add", empty, {"edges": nets.flat(ties + [fault])}, seed)[0], number, seed)
 
 
 @test(at_least=10_000)

@@ -21,7 +21,10 @@ use Rattle.bucket.proofs.Ends.{tally-weights}
 use Rattle.growth.specs.Work.{withWork, workOf, cleared}
 use Rattle.growth.proofs.Rooms.{same-room}
 use Rattle.adding.specs.Add.{grown}
+use Rattle.rising.specs.Rising.{Growable, GrowsList}
 use Rattle.inserting.specs.Putting.{Extendable, Weighable, Extends}
+use Rattle.inserting.proofs.First.{first-links, list-weighs}
+use Rattle.adding.specs.Steps.{RisingFirst}
 use Rattle.adding.proofs.Accepted.{Addable}
 
 module _ {p w e j l : List ℕ} {xs : List ℕ} (a : Addable (withWork (net p w) (workOf e j l)) xs) where
@@ -53,3 +56,18 @@ module _ {p w e j l : List ℕ} {xs : List ℕ} (a : Addable (withWork (net p w)
   pub add-moved : {e″ p′ e′ j′ l′ : List ℕ} {r : ℕ} {m : Moved} → Extends p xs e″ j l p′ e′ j′ l′ → Differ p p′ r → m ≡ movedAt r → m ≡ moved (net p w) (grown (net p w) (edges xs))
   unfolding moved grown
   add-moved x d is = is ∙ differ-moved (ap length (x .grown) ∙ forest-length _ _) (omega (arith, a .net .few)) d ∙ ap (movedFrom 0 p) (x .grown)
+
+  -- a first list that rises can be grown as it stands
+  module _ (r : RisingFirst p xs) where
+    pub rising-growable : Growable p w xs j
+    rising-growable = record {
+      blank = r .blank;
+      rises = r .rises;
+      few = a .net .few;
+      long = a .net .long;
+      room = list-weighs (add-extendable {e′ = e} refl) add-weighable .1;
+      long-jump = a .work .jump;
+    }
+
+    pub rising-extends : {p′ w′ e′ j′ l′ : List ℕ} → GrowsList xs p w e j l p′ w′ e′ j′ l′ → Extends p xs e j l p′ e′ j′ l′
+    rising-extends g = record { grown = g .grown ∙ first-links (edges xs) (r .blank) refl; clear = g .clear }

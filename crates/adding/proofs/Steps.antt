@@ -21,8 +21,9 @@ use Rattle.refusal.proofs.Ends.{ends-refused}
 use Rattle.bucket.specs.Steps.{upperCounts, CountsUpper}
 use Rattle.growth.specs.Work.{NetWithWork, withWork, workOf, badWork}
 use Rattle.growth.proofs.Rooms.{good-work}
+use Rattle.rising.proofs.Rising.{rises-faultless}
 use Rattle.adding.specs.Add.{addRefusal, addOutcome}
-use Rattle.adding.specs.Steps.{listRefusal, ByList, TablesRead, ListRead}
+use Rattle.adding.specs.Steps.{listRefusal, ByList, TablesRead, ListRead, RisingFirst}
 
 -- the tables refuse the call, by a number that is not 0
 pub tables-refused : (g : NetWithWork) (xs : List ℕ) (k : ℕ) {heavy : Bool} → addRefusal g xs ≡ suc k → TablesRead g xs (suc k) heavy
@@ -72,3 +73,7 @@ module _ {g : NetWithWork} {xs : List ℕ} {heavy counted : Bool} {ends′ : Lis
 
   pub list-counted : r ≡ 0 → counted ≡ true → ends′ ≡ upperCounts (length (g .net .parents)) (edges xs)
   list-counted z t = l .counts t z ∙ ap (λ (n : ℕ). upperCounts n (edges xs)) (o .ends)
+
+-- a list that rises has no fault, so that where it is not too heavy the call is not refused
+pub rising-passes : {g : NetWithWork} {xs : List ℕ} {heavy : Bool} → ByList g xs heavy → heavy ≡ false → RisingFirst (g .net .parents) xs → addRefusal g xs ≡ 0
+rising-passes {g} {xs} o light r = o .refusal ∙ faults-decide (firstFault (length (g .net .parents)) (edges xs)) light ∙ rises-faultless (r .rises)

@@ -4,12 +4,14 @@ use mathlib.Core.Path.{_≡_}
 use mathlib.Core.Bool.{Bool, true, false}
 use mathlib.Core.List.{List, [], _∷_}
 use Prim.Native.Nat.{ℕ, _≤_}
-use lib.ListN.{length}
+use lib.ListN.{length, replicate}
 use Rattle.game.specs.Edge.{edges}
+use Rattle.game.specs.Game.{absent}
 use Rattle.refusal.specs.Limits.{maxTotal}
 use Rattle.refusal.specs.Refusal.{given, first, firstFault}
 use Rattle.bucket.specs.Steps.{upperCounts}
 use Rattle.growth.specs.Work.{NetWithWork}
+use Rattle.rising.specs.Rising.{Rises}
 use Rattle.adding.specs.Add.{addRefusal}
 
 -- the last tests of adding: the list's faults, and whether it is too heavy
@@ -32,3 +34,8 @@ pub record ListRead (xs : List ℕ) (heavy counted : Bool) (ends ends′ : List 
   pub refusal : code ≡ listRefusal (length ends) xs heavy
   pub counts : counted ≡ true → code ≡ 0 → ends′ ≡ upperCounts (length ends) (edges xs)
   pub kept : (code ≡ 0 → ⊥) → ends′ ≡ ends
+
+-- no vertex has a parent, and the list rises
+pub record RisingFirst (p xs : List ℕ) : Type 0 where
+  pub blank : p ≡ replicate (length p) absent
+  pub rises : Rises (length p) 0 (edges xs)

@@ -1,4 +1,5 @@
-// Adding edges to a net. The tables are read first, then the list for its faults; a long list is counted by upper end in the same sweep.
+// Adding edges to a net. The tables are read first, then the list for its faults; a long list is counted by upper end in the same sweep,
+// unless it is the first and its upper ends rise.
 use moving::GrowthAnswer;
 use net::Net;
 ghost use mathlib.Core.Path.{_≡_};
@@ -11,7 +12,9 @@ ghost use Rattle.growth.specs.Work.{withWork, workOf};
 ghost use Rattle.moving.specs.Answer.{verdict};
 ghost use Rattle.refusal.specs.Outcome.{ended};
 ghost use Rattle.adding.specs.Add.{addOutcome};
-ghost use Rattle.adding.specs.Steps.{TablesRead, ListRead};
+ghost use Rattle.refusal.specs.Verdict.{accepted as acceptedWith};
+ghost use Rattle.moving.specs.Steps.{movedAt};
+ghost use Rattle.adding.specs.Steps.{TablesRead, ListRead, RisingFirst};
 
 // What the tables tell before the list is read: the number for which adding is refused; or 0, and whether the list is too heavy for the
 // net, that is, would bring its total above the limit. A fault of the list comes before that.
@@ -75,6 +78,26 @@ fn read_list(edges: &[u32], ends: &mut [u32], heavy: bool, counted: bool) -> u32
     0
 }
 
+// Whether the list is to be counted, but is the first and can be grown as it stands.
+fn is_rising_first(parents: &[u32], edges: &[u32], counted: bool) -> bool
+    ensures { λ r. ⌜ (r ≡ true → (counted ≡ true) × RisingFirst (now (parents .entry)) (now (edges .entry))) ⌝ }
+{
+    if counted {
+        if rising::is_rising(parents.len(), edges) {
+            return table::is_all(parents, Net::ABSENT);
+        }
+    }
+    false
+}
+
+// The answer of an accepted addition, by the lowest vertex that moved.
+fn accepted(lowest: u32) -> GrowthAnswer
+    ensures { λ r. ⌜ verdict r ≡ acceptedWith (movedAt lowest) ⌝ }
+{
+    let moved = moving::moved_at(lowest);
+    GrowthAnswer::Accepted(moved)
+}
+
 // Adds a list of edges to a net, as a whole or not at all: the parents become those of the elimination game on the old links and the
 // new edges, and each edge raises the weight of its lower end. The work tables take n, n and n + m entries for n vertices and m
 // edges; they end as zeros. Answers where the forest moved.
@@ -96,11 +119,14 @@ pub fn add(
     }
     let long = inserting::is_long(parents.len(), edges.len() / refusal::STRIDE);
     let counted = long & !found.heavy;
+    if is_rising_first(parents, edges, counted) {
+        let lowest = rising::grow_list(parents, weights, edges, ends, jump, lower);
+        return accepted(lowest);
+    }
     let code = read_list(edges, ends, found.heavy, counted);
     if code != 0 {
         return GrowthAnswer::Refused(code);
     }
     let lowest = inserting::extend(parents, weights, edges, ends, jump, lower, counted);
-    let moved = moving::moved_at(lowest);
-    GrowthAnswer::Accepted(moved)
+    accepted(lowest)
 }

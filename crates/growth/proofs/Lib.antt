@@ -1,6 +1,6 @@
 pub mod NewParents
 pub mod Moves
-pub mod Climb
+pub mod Climbs
 pub mod Weigh
 pub mod Raise
 pub mod Rooms

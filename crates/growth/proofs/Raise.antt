@@ -24,7 +24,7 @@ use Rattle.bucket.proofs.LowerEnds.{lower-ends-linked, linked-lower-ends}
 use Rattle.growth.specs.Growth.{Above, Known, known, passed, Child, Standing, Kept, Climbed, Connects, Offers, Gathered, Gathers, Raised, newParents}
 
 -- walks in the forest stay walks while parents are kept
-kept-conn : {was p : List ℕ} → length was ≡ length p → Kept was p → {t a b : ℕ} → Conn (links was) t a b → Conn (links p) t a b
+pub kept-conn : {was p : List ℕ} → length was ≡ length p → Kept was p → {t a b : ℕ} → Conn (links was) t a b → Conn (links p) t a b
 kept-conn {was} {p} same k = conn-map keep
   where
     link : {a b : ℕ} → (a < length was) × (getD was a absent ≡ b) × (b ≢ absent) → List·Memᴰ (a ─ b) (links p)
@@ -62,17 +62,17 @@ pub gather-end : {n y to k : ℕ} {E : List Edge} {bucket was p jump : List ℕ}
 gather-end le g = record { standing = g .standing; joined = λ i h. g .joined i (omega arith); kept = g .kept }
 
 -- with no climb under way the tables may stand at any greater height
-standing-up : {n y : ℕ} {E : List Edge} {p jump : List ℕ} → Standing n E y 0 p jump → Standing n E (y + 1) 0 p jump
-standing-up {n} {y} {E} {p} {jump} s = record { small = s .small; long = s .long; long-jump = s .long-jump; each = λ z h. ⊎-elim (λ r. inl r) (λ k. inr (child k)) (s .each z h) }
+pub standing-up : {n y h : ℕ} {E : List Edge} {p jump : List ℕ} → y ≤ h → Standing n E y 0 p jump → Standing n E h 0 p jump
+standing-up {n} {y} {h} {E} {p} {jump} le s = record { small = s .small; long = s .long; long-jump = s .long-jump; each = λ z h. ⊎-elim (λ r. inl r) (λ k. inr (child k)) (s .each z h) }
   where
-    above : {z q : ℕ} → Above E y z q → Above E (y + 1) z q
+    above : {z q : ℕ} → Above E y z q → Above E h z q
     above a = record { over = a .over; within = omega (arith, a .within); walk = a .walk }
 
-    joined : {z q : ℕ} → Known p y 0 z q → Known p (y + 1) 0 z q
+    joined : {z q : ℕ} → Known p y 0 z q → Known p h 0 z q
     joined (known t) = known t
     joined (passed e l t) = absurd (omega arith)
 
-    child : {z : ℕ} → Child E y 0 p jump z → Child E (y + 1) 0 p jump z
+    child : {z : ℕ} → Child E y 0 p jump z → Child E h 0 p jump z
     child k = record { parent = above (k .parent); leap = above (k .leap); joined = joined (k .joined) }
 
 -- nothing is raised: every vertex is a root
@@ -97,7 +97,7 @@ offers-own {E = E} proper y = record {
 
 -- with the bucket gathered, y is raised too
 raise-step : {n y : ℕ} {E : List Edge} {p jump p′ jump′ : List ℕ} → Raised n E y p jump → Gathered n E y (length (lowerEnds E y)) (lowerEnds E y) p p′ jump′ → Raised n E (y + 1) p′ jump′
-raise-step {n} {y} {E} {p} {p′ = p′} r g = record { standing = standing-up (g .standing); covered = covered }
+raise-step {n} {y} {E} {p} {p′ = p′} r g = record { standing = standing-up (omega arith) (g .standing); covered = covered }
   where
     new : (a : ℕ) → Linked E a y → a < y → Conn (links p′) y a y
     new a l low = let (k, h, e) = linked-lower-ends E l low in

@@ -3,6 +3,7 @@ mod raising;
 mod work;
 
 pub use raising::clear;
+pub use raising::climb;
 pub use raising::grow;
 pub use raising::grow_kept;
 pub use raising::regrow;

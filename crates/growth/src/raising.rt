@@ -29,7 +29,7 @@ fn link(w: u32, y: u32, parents: &mut [u32], moved: u32) -> u32
 
 // Makes the root of u's tree a child of y, and every vertex on the way jump to y. A vertex jumps higher than it stands, so
 // the climb ends. Answers the lowest vertex that moved so far.
-fn climb(u: u32, y: u32, parents: &mut [u32], jump: &mut [u32], moved: u32) -> u32
+pub fn climb(u: u32, y: u32, parents: &mut [u32], jump: &mut [u32], moved: u32) -> u32
     requires { ⌜ (y < length (now parents)) × (length (now parents) ≤ maxVertices) × Upward (length (now parents)) (now jump) ⌝ }
     ensures { λ r. ⌜ Connects u y (now (parents .entry)) (now (jump .entry)) (now (parents .exit)) (now (jump .exit)) × Moves (now (parents .entry)) (now (jump .entry)) moved (now (parents .exit)) (now (jump .exit)) r ⌝ }
 {

@@ -4,8 +4,8 @@ use Rattle.moving.specs.Answer.{verdict}
 use Rattle.refusal.proofs.Ends.{ends-refused, ends-accepted}
 use Rattle.adding.specs.Add.{addOutcome}
 use Rattle.adding.proofs.Accepted.{addable}
-use Rattle.adding.proofs.Outcomes.{add-extendable, add-weighable, add-ends, add-moved}
-use Rattle.adding.proofs.Steps.{counted-light, list-decides, list-refused, list-counted}
+use Rattle.adding.proofs.Outcomes.{add-extendable, add-weighable, add-ends, add-moved, rising-growable, rising-extends}
+use Rattle.adding.proofs.Steps.{counted-light, list-decides, list-refused, list-counted, rising-passes}
 use borrow.Author.Needs.{needs}
 use Rattle.adding.proofs.adding.add.Statement.{statement}
 use Rattle.adding.proofs.adding.add.Tie as tie
@@ -37,10 +37,18 @@ returns c =
 is-long-requires : tie.Need-is-long-requires
 is-long-requires c κs = search needs
 
-read-list-requires : tie.Need-read-list-requires
-read-list-requires c κs =
-    λ t. let l = counted-light (c .before .before .is-long .result) (c .before .before .before .before .before .read-tables .result .heavy) t in
-    (l, omega (arith, c .before .before .before .before .before .read-tables .ensures .passed (c .before .before .before .if1 .left) .few l))
+is-rising-first-requires : tie.Need-is-rising-first-requires
+is-rising-first-requires c κs = search needs
+
+grow-list-requires : tie.Need-grow-list-requires
+grow-list-requires c κs =
+    let (counted, r) = c .before .before .before .before .before .before .is-rising-first .ensures (c .before .before .before .before .before .if2 .taken) in
+    let l = counted-light (c .before .before .before .before .before .before .before .before .before .is-long .result) (c .before .before .before .before .before .before .before .before .before .before .before .before .read-tables .result .heavy) counted in
+    let o = c .before .before .before .before .before .before .before .before .before .before .before .before .read-tables .ensures .passed (c .before .before .before .before .before .before .before .before .before .before .if1 .left) in
+    rising-growable (addable _ _ (rising-passes o l r)) r
+
+accepted-requires : tie.Need-accepted-requires
+accepted-requires c κs = search needs
 
 same-length-6 : tie.Need-same-length-6
 same-length-6 c = search needs
@@ -58,20 +66,20 @@ same-length-10 : tie.Need-same-length-10
 same-length-10 c = search needs
 
 returns-2 : tie.Need-returns-2
-unfolding verdict
+unfolding addOutcome
 returns-2 c =
-    list-refused (c .before .before .before .before .before .before .before .before .before .read-tables .ensures .passed (c .before .before .before .before .before .before .before .if1 .left)) (c .before .before .before .read-list .ensures) (c .if2 .taken)
+    let (counted, r) = c .before .before .before .before .before .before .before .before .before .before .before .before .before .before .before .before .before .before .is-rising-first .ensures (c .before .before .before .before .before .before .before .before .before .before .before .before .before .before .before .before .before .if2 .taken) in
+    let l = counted-light (c .before .before .before .before .before .before .before .before .before .before .before .before .before .before .before .before .before .before .before .before .before .is-long .result) (c .before .before .before .before .before .before .before .before .before .before .before .before .before .before .before .before .before .before .before .before .before .before .before .before .read-tables .result .heavy) counted in
+    let z = rising-passes (c .before .before .before .before .before .before .before .before .before .before .before .before .before .before .before .before .before .before .before .before .before .before .before .before .read-tables .ensures .passed (c .before .before .before .before .before .before .before .before .before .before .before .before .before .before .before .before .before .before .before .before .before .before .if1 .left)) l r in
+    let a = addable _ _ z in
+    let (g, d) = c .before .before .before .before .before .before .before .before .before .before .before .grow-list .ensures in
+    let x = rising-extends a r g in
+    rw (c .accepted .ensures) (ends-accepted _ _ _ _ (add-moved a x d refl) z (add-ends a refl (x, g .weighed)))
 
-extend-requires : tie.Need-extend-requires
-extend-requires c κs =
-    let r : tie.After-read-list = c .before .before .before .before .before .before .before .before in
-    let o = c .before .before .before .before .before .before .before .before .before .before .before .before .before .before .read-tables .ensures .passed (c .before .before .before .before .before .before .before .before .before .before .before .before .if1 .left) in
-    let z = c .before .before .before .before .before .if2 .left in
-    let a = addable _ _ (sym (list-decides o (r .read-list .ensures)) ∙ z) in
-    (add-extendable a (r .read-list .kept .1 .0), add-weighable a, list-counted o (r .read-list .ensures) z)
-
-moved-at-requires : tie.Need-moved-at-requires
-moved-at-requires c κs = search needs
+read-list-requires : tie.Need-read-list-requires
+read-list-requires c κs =
+    λ t. let l = counted-light (c .before .before .before .before .before .is-long .result) (c .before .before .before .before .before .before .before .before .read-tables .result .heavy) t in
+    (l, omega (arith, c .before .before .before .before .before .before .before .before .read-tables .ensures .passed (c .before .before .before .before .before .before .if1 .left) .few l))
 
 same-length-11 : tie.Need-same-length-11
 same-length-11 c = search needs
@@ -89,14 +97,44 @@ same-length-15 : tie.Need-same-length-15
 same-length-15 c = search needs
 
 returns-3 : tie.Need-returns-3
-unfolding verdict addOutcome
-returns-3 c =
+unfolding verdict
+returns-3 c = list-refused (c .before .before .before .before .before .before .before .before .before .before .before .before .read-tables .ensures .passed (c .before .before .before .before .before .before .before .before .before .before .if1 .left)) (c .before .before .before .read-list .ensures) (c .if3 .taken)
+
+extend-requires : tie.Need-extend-requires
+extend-requires c κs =
+    let r : tie.After-read-list = c .before .before .before .before .before .before .before .before in
+    let o = c .before .before .before .before .before .before .before .before .before .before .before .before .before .before .before .before .before .read-tables .ensures .passed (c .before .before .before .before .before .before .before .before .before .before .before .before .before .before .before .if1 .left) in
+    let z = c .before .before .before .before .before .if3 .left in
+    let a = addable _ _ (sym (list-decides o (r .read-list .ensures)) ∙ z) in
+    (add-extendable a (r .read-list .kept .1 .0), add-weighable a, list-counted o (r .read-list .ensures) z)
+
+accepted-requires-2 : tie.Need-accepted-requires-2
+accepted-requires-2 c κs = search needs
+
+same-length-16 : tie.Need-same-length-16
+same-length-16 c = search needs
+
+same-length-17 : tie.Need-same-length-17
+same-length-17 c = search needs
+
+same-length-18 : tie.Need-same-length-18
+same-length-18 c = search needs
+
+same-length-19 : tie.Need-same-length-19
+same-length-19 c = search needs
+
+same-length-20 : tie.Need-same-length-20
+same-length-20 c = search needs
+
+returns-4 : tie.Need-returns-4
+unfolding addOutcome
+returns-4 c =
     let r : tie.After-read-list = c .before .before .before .before .before .before .before .before .before .before .before .before .before .before .before .before .before .before .before .before in
-    let o = c .before .before .before .before .before .before .before .before .before .before .before .before .before .before .before .before .before .before .before .before .before .before .before .before .before .before .read-tables .ensures .passed (c .before .before .before .before .before .before .before .before .before .before .before .before .before .before .before .before .before .before .before .before .before .before .before .before .if1 .left) in
-    let z = sym (list-decides o (r .read-list .ensures)) ∙ c .before .before .before .before .before .before .before .before .before .before .before .before .before .before .before .before .before .if2 .left in
+    let o = c .before .before .before .before .before .before .before .before .before .before .before .before .before .before .before .before .before .before .before .before .before .before .before .before .before .before .before .before .before .read-tables .ensures .passed (c .before .before .before .before .before .before .before .before .before .before .before .before .before .before .before .before .before .before .before .before .before .before .before .before .before .before .before .if1 .left) in
+    let z = sym (list-decides o (r .read-list .ensures)) ∙ c .before .before .before .before .before .before .before .before .before .before .before .before .before .before .before .before .before .if3 .left in
     let a = addable _ _ z in
     let (x, t, d) = c .before .before .before .before .before .before .before .before .before .before .before .extend .ensures in
-    ends-accepted _ _ _ _ (add-moved a x d (c .moved-at .ensures)) z (add-ends a (r .read-list .kept .1 .0) (x, t))
+    rw (c .accepted2 .ensures) (ends-accepted _ _ _ _ (add-moved a x d refl) z (add-ends a (r .read-list .kept .1 .0) (x, t)))
 
 pub add-spec : {M : Type 1} → statement M
 add-spec =
@@ -110,18 +148,27 @@ add-spec =
     same-length-5
     returns
     is-long-requires
-    read-list-requires
+    is-rising-first-requires
+    grow-list-requires
+    accepted-requires
     same-length-6
     same-length-7
     same-length-8
     same-length-9
     same-length-10
     returns-2
-    extend-requires
-    moved-at-requires
+    read-list-requires
     same-length-11
     same-length-12
     same-length-13
     same-length-14
     same-length-15
-    returns-3)
+    returns-3
+    extend-requires
+    accepted-requires-2
+    same-length-16
+    same-length-17
+    same-length-18
+    same-length-19
+    same-length-20
+    returns-4)

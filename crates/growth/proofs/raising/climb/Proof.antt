@@ -11,7 +11,7 @@ use Rattle.growth.specs.Growth.{Upward, Standing, Climbing, newParents, 
 use Rattle.growth.specs.Moves.{Moves}
 use Rattle.growth.proofs.NewParents.{untouched-none, untouched-pass, untouched-link, untouched-on}
 use Rattle.growth.proofs.Moves.{moves-none, moves-on, moves-pass, moves-link}
-use Rattle.growth.proofs.Climb.{climb-start, climb-jump, climb-root, climb-done, upward-set, upward-next}
+use Rattle.growth.proofs.Climbs.{climb-start, climb-jump, climb-root, climb-done, upward-set, upward-next}
 use borrow.Author.Needs.{needs}
 use Rattle.growth.proofs.raising.climb.Statement.{statement}
 use Rattle.growth.proofs.raising.climb.Tie as tie

@@ -12,7 +12,7 @@ use Rattle.growth.specs.Growth.{Upward, Weighs, Raised, ReadUpTo, newPar
 use Rattle.growth.specs.Moves.{Moves}
 use Rattle.growth.proofs.NewParents.{new-blank, untouched-none, untouched-on}
 use Rattle.growth.proofs.Moves.{moves-none, moves-on}
-use Rattle.growth.proofs.Climb.{upward-blank}
+use Rattle.growth.proofs.Climbs.{upward-blank}
 use Rattle.growth.proofs.Raise.{raise-start, raise-gather, raise-end}
 use Rattle.growth.proofs.Weigh.{weighs-none, weighs-room, weighs-stretch, part-length, read-start, read-part, read-on}
 use native.Mathlib.Omega.{arith}

@@ -1,0 +1,3 @@
+-- Laws of lists that rise, and of taking them in.
+pub mod Rising
+pub mod Taking

@@ -1,0 +1,124 @@
+-- From climbs to the forest, edge by edge: every edge that was taken in is a walk in the forest, so that in the end the table is the
+-- elimination forest of the list.
+-- Assumes nothing.
+use mathlib.Core.Path.{_≡_, refl, sym, ap, subst, subst₂, _∙_}
+use mathlib.Core.Logic.{_≢_, _⊎_, inl, inr, ⊎-elim, by-cases}
+use mathlib.Core.Bool.{true, false}
+use mathlib.Core.List.{List, [], _∷_, List·Memᴰ, List·Memᴰ·head, List·Memᴰ·eq-of-singleton}
+use Prim.Native.Nat.{ℕ, _≤_, _<_}
+use native.Mathlib.Nat.{le-refl, le-of-lt}
+use native.Mathlib.Decide.{decLt}
+use native.Mathlib.Omega.{arith}
+use lib.ListN.{length, replicate}
+use Rattle.game.specs.Edge.{Edge, _─_, lower, upper}
+use Rattle.game.specs.Game.{absent, forest}
+use Rattle.game.specs.Tree.{links}
+use Rattle.game.specs.Graph.{Linked, forth, back, Proper}
+use Rattle.game.proofs.Conn.{Conn, conn-step, linked-sym, linked-cases, linked-right}
+use Rattle.game.proofs.Proper.{edge-left, edge-right, linked-nil}
+use Rattle.refusal.specs.Refusal.{fault}
+use Rattle.refusal.proofs.Fault.{faultless, faultless-proper}
+use Rattle.bucket.specs.Ends.{endOf}
+use Rattle.growth.specs.Growth.{Standing, Climbed, Connects, newParents}
+use Rattle.growth.proofs.Raise.{kept-conn, standing-up, raise-start, raise-end}
+use Rattle.rising.specs.Rising.{Rises, stop, rise}
+use Rattle.rising.proofs.Rising.{rises-faultless}
+
+-- the edges of E but for those of T are taken in
+pub record Taking (n : ℕ) (E T : List Edge) (p jump : List ℕ) : Type 0 where
+  pub last : ℕ
+  pub rises : Rises n last T
+  pub top : last ≤ n
+  pub standing : Standing n E last 0 p jump
+  pub among : (a b : ℕ) → Linked T a b → Linked E a b
+  pub covered : (a b : ℕ) → Linked E a b → a < b → Linked T a b ⊎ Conn (links p) b a b
+
+pub taking-start : {n : ℕ} {E : List Edge} → n ≤ absent → Rises n 0 E → Taking n E E (replicate n absent) (replicate n absent)
+taking-start {n} {E} small r = record { last = 0; rises = r; top = omega arith; standing = raise-start n E small .standing; among = λ a b l. l; covered = λ a b l low. inl l }
+
+pub taking-end : {n : ℕ} {E T : List Edge} {p jump : List ℕ} → Taking n E T p jump → T ≡ [] → Proper n E → p ≡ forest n E
+taking-end {n} {E} {T} {p} t none proper =
+    raise-end proper (le-refl n)
+    (record {
+      standing = standing-up (t .top) (t .standing);
+      covered = λ a b l low h. ⊎-elim (λ k. absurd (linked-nil (subst (λ (g : List Edge). Linked g a b) none k))) (λ c. c) (t .covered a b l low);
+    })
+
+-- which two vertices the next edge links
+head-linked : {rest : List Edge} {a b c d : ℕ} → Linked ((a ─ b) ∷ rest) c d → (((c ≡ a) × (d ≡ b)) ⊎ ((c ≡ b) × (d ≡ a))) ⊎ Linked rest c d
+head-linked {a = a} {b = b} {c = c} {d = d} l = ⊎-elim (λ k. inl (own k)) (λ k. inr k) (linked-cases ((a ─ b) ∷ []) l)
+  where
+    own : Linked ((a ─ b) ∷ []) c d → ((c ≡ a) × (d ≡ b)) ⊎ ((c ≡ b) × (d ≡ a))
+    own (forth m) = let e = List·Memᴰ·eq-of-singleton m in inl (edge-left e, edge-right e)
+    own (back m) = let e = List·Memᴰ·eq-of-singleton m in inr (edge-right e, edge-left e)
+
+-- its ends, by height
+module _ {n a b : ℕ} (proper : (a < n) × (b < n) × (a ≡ b → ⊥)) where
+  ends-order : (endOf false (a ─ b) < endOf true (a ─ b)) × (endOf true (a ─ b) < n)
+  unfolding endOf lower upper
+  ends-order = (omega (arith, proper .2), omega (arith, proper .0, proper .1))
+
+  ends-linked : {g : List Edge} → Linked g a b → Linked g (endOf false (a ─ b)) (endOf true (a ─ b))
+  unfolding endOf lower upper
+  ends-linked {g} l = by-cases (decLt a b)
+      (λ (h : a < b). let (e, f) = low h in subst₂ (Linked g) e f l)
+      (λ (h : a < b → ⊥). let (e, f) = high h in subst₂ (Linked g) e f (linked-sym l))
+    where
+      low : a < b → (a ≡ endOf false (a ─ b)) × (b ≡ endOf true (a ─ b))
+      low h = (omega arith, omega arith)
+
+      high : (a < b → ⊥) → (b ≡ endOf false (a ─ b)) × (a ≡ endOf true (a ─ b))
+      high h = (omega arith, omega arith)
+
+  ends-are : {c d : ℕ} → c < d → ((c ≡ a) × (d ≡ b)) ⊎ ((c ≡ b) × (d ≡ a)) → (endOf false (a ─ b) ≡ c) × (endOf true (a ─ b) ≡ d)
+  unfolding endOf lower upper
+  ends-are h (inl (e, f)) = (omega arith, omega arith)
+  ends-are h (inr (e, f)) = (omega arith, omega arith)
+
+-- taken in by what a climb promises
+pub taking-edge : {n a b : ℕ} {E rest T : List Edge} {u y : ℕ} {p jump p′ jump′ : List ℕ} → Taking n E T (newParents p jump) jump → T ≡ (a ─ b) ∷ rest → u ≡ endOf false (a ─ b) → y ≡ endOf true (a ─ b) → length p ≡ n
+    → Connects u y p jump p′ jump′ → Taking n E rest (newParents p′ jump′) jump′
+taking-edge {n} {a} {b} {E} {rest} {T} {u} {y} {p} {jump} {p′} {jump′} t head low high long c = on (subst (Rises n (t .last)) head (t .rises))
+  where
+    -- an edge that is left is this one or one behind it
+    left : (c d : ℕ) → Linked T c d → (((c ≡ a) × (d ≡ b)) ⊎ ((c ≡ b) × (d ≡ a))) ⊎ Linked rest c d
+    left c d l = head-linked (subst (λ (g : List Edge). Linked g c d) head l)
+
+    behind : (c d : ℕ) → Linked rest c d → Linked T c d
+    behind c d l = subst (λ (g : List Edge). Linked g c d) (sym head) (linked-right ((a ─ b) ∷ []) l)
+
+    own : Linked E a b
+    own = t .among a b (subst (λ (g : List Edge). Linked g a b) (sym head) (forth (List·Memᴰ·head refl)))
+
+    on : Rises n (t .last) ((a ─ b) ∷ rest) → Taking n E rest (newParents p′ jump′) jump′
+    on (rise f l r) = record {
+      last = endOf true (a ─ b);
+      rises = r;
+      top = le-of-lt (ends-order (faultless n a b f) .1);
+      standing = subst (λ (z : ℕ). Standing n E z 0 (newParents p′ jump′) jump′) high (climbed .standing);
+      among = λ c d k. t .among c d (behind c d k);
+      covered = λ c d k h. ⊎-elim
+          (λ k. ⊎-elim (λ k. inr (joined (ends-are (faultless n a b f) h k))) (λ k. inl k) (left c d k))
+          (λ k. inr (kept-conn (t .standing .long ∙ sym (climbed .standing .long)) (climbed .kept) k))
+          (t .covered c d k h);
+    }
+      where
+        order : (u < y) × (y < n)
+        order = subst₂ (λ (v z : ℕ). (v < z) × (z < n)) (sym low) (sym high) (ends-order (faultless n a b f))
+
+        walk : Conn E y u y
+        walk = conn-step (subst₂ (Linked E) (sym low) (sym high) (ends-linked (faultless n a b f) own)) (le-of-lt (order .0)) (le-refl y)
+
+        climbed : Climbed n E y u (newParents p jump) (newParents p′ jump′) jump′
+        climbed = subst (λ (m : ℕ). Standing m E y 0 (newParents p jump) jump → Climbed m E y u (newParents p jump) (newParents p′ jump′) jump′) long (λ s. c .climbed E s (order .0) walk)
+            (standing-up (omega (arith, l, high)) (t .standing))
+
+        joined : {c d : ℕ} → (endOf false (a ─ b) ≡ c) × (endOf true (a ─ b) ≡ d) → Conn (links (newParents p′ jump′)) d c d
+        joined (e, f) = subst₂ (λ (v z : ℕ). Conn (links (newParents p′ jump′)) z v z) (low ∙ e) (high ∙ f) (climbed .joined)
+
+-- the ends of the next edge are in the table, the lower below the upper
+pub taking-ends : {n a b : ℕ} {E rest T : List Edge} {p jump : List ℕ} → Taking n E T p jump → T ≡ (a ─ b) ∷ rest → (endOf false (a ─ b) < endOf true (a ─ b)) × (endOf true (a ─ b) < n)
+taking-ends {n} {a} {b} {rest = rest} t head = on (subst (Rises n (t .last)) head (t .rises))
+  where
+    on : Rises n (t .last) ((a ─ b) ∷ rest) → (endOf false (a ─ b) < endOf true (a ─ b)) × (endOf true (a ─ b) < n)
+    on (rise f l r) = ends-order (faultless n a b f)

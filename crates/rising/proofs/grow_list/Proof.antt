@@ -1,0 +1,72 @@
+use mathlib.Core.Path.{refl, ap, _∙_}
+use Prim.Native.Nat.{ℕ}
+use native.Mathlib.Omega.{arith}
+use lib.ListN.{replicate}
+use Rattle.game.specs.Game.{absent}
+use Rattle.refusal.proofs.Fault.{faultless-proper}
+use Rattle.growth.proofs.NewParents.{new-whole, links-blank}
+use Rattle.growth.proofs.Moves.{moves-differ}
+use Rattle.growth.proofs.Rooms.{same-room}
+use Rattle.rising.proofs.Rising.{rises-faultless}
+use borrow.Author.Needs.{needs}
+use Rattle.rising.proofs.grow_list.Statement.{statement}
+use Rattle.rising.proofs.grow_list.Tie as tie
+
+fill-requires : tie.Need-fill-requires
+fill-requires c κs = search needs
+
+raise-list-requires : tie.Need-raise-list-requires
+raise-list-requires c κs =
+    let g = c .before .before .before .before .before .before .before .before .before .before .before .before .before .pre in
+    record {
+      rises = g .rises;
+      few = g .few;
+      long = g .long;
+      room = g .room;
+      blank-jump = c .before .before .before .before .before .fill .ensures ∙ ap (λ (n : ℕ). replicate n absent) (g .long-jump);
+    }
+
+clear-requires : tie.Need-clear-requires
+clear-requires c κs = search needs
+
+same-length : tie.Need-same-length
+same-length c = search needs
+
+same-length-2 : tie.Need-same-length-2
+same-length-2 c = search needs
+
+same-length-3 : tie.Need-same-length-3
+same-length-3 c = search needs
+
+same-length-4 : tie.Need-same-length-4
+same-length-4 c = search needs
+
+same-length-5 : tie.Need-same-length-5
+same-length-5 c = search needs
+
+returns : tie.Need-returns
+returns c =
+    let g = c .before .before .before .before .before .before .before .before .before .before .before .before .before .before .before .before .before .before .before .before .before .before .before .before .before .before .before .before .before .before .pre in
+    let l : tie.After-raise-list = c .before .before .before .before .before .before .before .before .before .before .before .before .before .before .before .before in
+    let (r, m) = l .raise-list .ensures in (
+      record {
+        grown = new-whole (omega (arith, g .few)) (faultless-proper _ _ (rises-faultless (g .rises))) refl (l .raise-list .kept .1 .1 .0) (links-blank _ (g .blank)) (r .untouched) (r .raised);
+        weighed = r .weighed;
+        clear = c .before .before .before .before .before .before .clear .ensures ∙ same-room _ _ _ _ _ _ refl (l .raise-list .kept .1 .1 .1 .0 ∙ c .before .before .before .before .before .before .before .before .before .before .before .before .before .before .before .before .before .before .before .before .before .before .fill .kept .0) refl;
+      },
+      moves-differ m,
+    )
+
+pub grow-list-spec : {M : Type 1} → statement M
+grow-list-spec =
+    tie.close
+    (tie.spec
+    fill-requires
+    raise-list-requires
+    clear-requires
+    same-length
+    same-length-2
+    same-length-3
+    same-length-4
+    same-length-5
+    returns)

@@ -1,0 +1,176 @@
+use mathlib.Core.Path.{_≡_, refl, sym, ap, subst, subst₂, _∙_}
+use mathlib.Core.Bool.{false}
+use mathlib.Core.List.{List}
+use Prim.Native.Nat.{ℕ, _+_, _-_, _≤_, _<_}
+use native.Mathlib.Omega.{arith}
+use lib.ListN.{length, getD, drop, length-set, length-replicate}
+use Rattle.game.specs.Edge.{Edge, _─_, edges as edgesOf}
+use Rattle.game.specs.Game.{absent}
+use Rattle.game.proofs.Edges.{edges-drop, edges-end}
+use Rattle.refusal.proofs.Fault.{faultless-proper}
+use Rattle.sorting.proofs.Tallied.{Counting, counting-room, counting-turn, counting-end}
+use Rattle.bucket.specs.Ends.{endOf, tallied}
+use Rattle.growth.specs.Growth.{Upward, Untouched, newParents}
+use Rattle.growth.specs.Moves.{Moves}
+use Rattle.growth.proofs.Climbs.{upward-blank}
+use Rattle.growth.proofs.NewParents.{new-blank, untouched-none, untouched-on}
+use Rattle.growth.proofs.Moves.{moves-none, moves-on}
+use Rattle.rising.proofs.Rising.{rises-faultless}
+use Rattle.rising.proofs.Taking.{Taking, taking-start, taking-ends, taking-edge, taking-end}
+use borrow.Author.Needs.{needs}
+use Rattle.rising.proofs.raise_list.Statement.{statement}
+use Rattle.rising.proofs.raise_list.Tie as tie
+
+-- the edges before place i are taken in and weighed
+record Turn (xs weights₀ before jumps weights p jump : List ℕ) (moved i : ℕ) : Type 0 where
+  inside : i ≤ length xs
+  same : length p ≡ length before
+  upward : Upward (length before) jump
+  untouched : Untouched before jumps p jump
+  moves : Moves before jumps absent p jump moved
+  counting : Counting (endOf false) (length before) (edgesOf (drop i xs)) weights (tallied false (edgesOf xs) weights₀)
+  taking : Taking (length before) (edgesOf xs) (edgesOf (drop i xs)) (newParents p jump) jump
+
+abbrev Inv-loop : tie.InvT-loop
+Inv-loop edges weights₀ parents₀ jump₀ moved₀ i₀ weights parents jump moved i = Turn edges weights₀ parents₀ jump₀ weights parents jump moved i
+
+abbrev μ-loop : tie.MeasureT-loop
+μ-loop edges weights₀ parents₀ jump₀ moved₀ i₀ weights parents jump moved i = length edges - i
+
+loop-holds : tie.Need-loop-holds Inv-loop μ-loop
+loop-holds c =
+    let r = c .before .before .before .before .pre in
+    record {
+      inside = omega arith;
+      same = refl;
+      upward = subst (Upward _) (sym (r .blank-jump)) (upward-blank _);
+      untouched = untouched-none _ _;
+      moves = moves-none _ _ _;
+      counting = record { long = r .long; room = r .room; same = refl };
+      taking = subst₂ (Taking _ _ _) (sym (new-blank _ refl (r .blank-jump))) (sym (r .blank-jump)) (taking-start (omega (arith, r .few)) (r .rises));
+    }
+
+add-loop : tie.Need-add-loop Inv-loop μ-loop
+add-loop c = search needs
+
+mul-a : tie.Need-mul-a Inv-loop μ-loop
+mul-a c = search needs
+
+shared-slice-read-a : tie.Need-shared-slice-read-a Inv-loop μ-loop
+shared-slice-read-a c = search needs
+
+add-b : tie.Need-add-b Inv-loop μ-loop
+add-b c = search needs
+
+mul-b : tie.Need-mul-b Inv-loop μ-loop
+mul-b c = search needs
+
+shared-slice-read-b : tie.Need-shared-slice-read-b Inv-loop μ-loop
+shared-slice-read-b c = search needs
+
+end-of-requires : tie.Need-end-of-requires Inv-loop μ-loop
+end-of-requires c κs = search needs
+
+end-of-requires-2 : tie.Need-end-of-requires-2 Inv-loop μ-loop
+end-of-requires-2 c κs = search needs
+
+wide-requires : tie.Need-wide-requires Inv-loop μ-loop
+wide-requires c κs = search needs
+
+mul-weights : tie.Need-mul-weights Inv-loop μ-loop
+mul-weights c = search needs
+
+-- the lower end of the edge that the loop has come to has a weight
+weighed-here : (c : tie.After-wide Inv-loop μ-loop) → c .wide .result < length (c .before .before .before .before .before .before .loop .weights)
+weighed-here c =
+    let t = c .before .before .before .before .before .before .loop .inv in
+    let e = taking-ends (t .taking) (edges-drop _ _ (c .before .before .before .before .before .loop-test .taken)) in
+    omega (arith, c .wide .ensures, c .before .before .end-of .ensures, e .0, e .1, t .counting .long)
+
+slice-read-weights : tie.Need-slice-read-weights Inv-loop μ-loop
+slice-read-weights c = weighed-here (c .before)
+
+add-weights : tie.Need-add-weights Inv-loop μ-loop
+add-weights c = record { fits = counting-room (endOf false) (c .before .before .before .before .before .before .before .loop .inv .counting) _ (edges-drop _ _ (c .before .before .before .before .before .before .loop-test .taken)) }
+
+slice-write-weights : tie.Need-slice-write-weights Inv-loop μ-loop
+slice-write-weights c = weighed-here (c .before)
+
+climb-requires : tie.Need-climb-requires Inv-loop μ-loop
+climb-requires c κs =
+    let t = c .before .before .before .before .before .before .before .before .before .loop .inv in
+    let e = taking-ends (t .taking) (edges-drop _ _ (c .before .before .before .before .before .before .before .before .loop-test .taken)) in
+    (omega (arith, c .before .before .before .before .end-of2 .ensures, e .1, t .same), omega (arith, t .same, c .before .before .before .before .before .before .before .before .before .before .before .before .before .before .pre .few), subst (λ (m : ℕ). Upward m (c .before .before .before .before .before .before .before .before .before .loop .jump)) (sym (t .same)) (t .upward))
+
+add-i : tie.Need-add-i Inv-loop μ-loop
+add-i c = search needs
+
+loop-less : tie.Need-loop-less Inv-loop μ-loop
+loop-less c = search needs
+
+loop-again : tie.Need-loop-again Inv-loop μ-loop
+loop-again c =
+    let t = c .before .before .before .before .before .before .before .before .before .before .before .before .before .before .loop .inv in
+    let h = c .before .before .before .before .before .before .before .before .before .before .before .before .before .loop-test .taken in
+    let (k, m) = c .before .before .before .before .climb .ensures in
+    let head = edges-drop _ _ h in
+    record {
+      inside = omega (arith, h);
+      same = c .before .before .before .before .climb .kept .1 .1 .0 ∙ t .same;
+      upward = subst (λ (n : ℕ). Upward n (c .before .before .before .before .climb .last .1 .1 .1 .0)) (t .same) (k .upward);
+      untouched = untouched-on (t .untouched) (k .untouched);
+      moves = moves-on (t .moves) m;
+      counting = counting-turn (endOf false) (t .counting) _ head (c .before .before .before .before .before .before .before .before .wide .ensures ∙ c .before .before .before .before .before .before .before .before .before .before .end-of .ensures) (weighed-here (c .before .before .before .before .before .before .before .before));
+      taking = taking-edge (t .taking) head (c .before .before .before .before .before .before .before .before .before .before .end-of .ensures) (c .before .before .before .before .before .before .before .before .before .end-of2 .ensures) (t .same) k;
+    }
+
+same-length : tie.Need-same-length Inv-loop μ-loop
+same-length c = c .before .loop .inv .counting .long ∙ sym (c .before .before .before .before .before .before .pre .long)
+
+same-length-2 : tie.Need-same-length-2 Inv-loop μ-loop
+same-length-2 c = search needs
+
+same-length-3 : tie.Need-same-length-3 Inv-loop μ-loop
+same-length-3 c = c .before .loop .inv .upward .long ∙ sym (ap length (c .before .before .before .before .before .before .pre .blank-jump) ∙ length-replicate _ absent)
+
+returns : tie.Need-returns Inv-loop μ-loop
+returns c =
+    let t = c .before .loop .inv in
+    let r = c .before .before .before .before .before .before .pre in
+    let none = edges-end _ _ (c .loop-test .left) in (
+      record {
+        raised = taking-end (t .taking) none (faultless-proper _ _ (rises-faultless (r .rises)));
+        untouched = t .untouched;
+        weighed = counting-end (endOf false) (t .counting) none;
+      },
+      t .moves,
+    )
+
+pub raise-list-spec : {M : Type 1} → statement M
+raise-list-spec =
+    tie.close
+    (tie.spec
+    Inv-loop
+    μ-loop
+    loop-holds
+    add-loop
+    mul-a
+    shared-slice-read-a
+    add-b
+    mul-b
+    shared-slice-read-b
+    end-of-requires
+    end-of-requires-2
+    wide-requires
+    mul-weights
+    slice-read-weights
+    add-weights
+    slice-write-weights
+    climb-requires
+    add-i
+    loop-less
+    loop-again
+    same-length
+    same-length-2
+    same-length-3
+    returns)

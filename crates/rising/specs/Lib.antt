@@ -1,0 +1,2 @@
+-- Lists that rise, and their forests.
+pub mod Rising
