@@ -7,6 +7,7 @@ use Prim.Native.Nat.{ℕ, _+_}
 use native.Mathlib.Omega.{arith}
 use lib.ListN.{length}
 use Rattle.game.specs.Edge.{edges}
+use Rattle.game.specs.Game.{forest}
 use Rattle.game.specs.Net.{net, weights}
 use Rattle.game.proofs.Weights.{charges-count}
 use Rattle.game.proofs.Sound.{true-sound}
@@ -21,7 +22,7 @@ use Rattle.bucket.proofs.Ends.{tally-weights}
 use Rattle.growth.specs.Work.{withWork, workOf, cleared}
 use Rattle.growth.proofs.Rooms.{same-room}
 use Rattle.adding.specs.Add.{grown}
-use Rattle.rising.specs.Rising.{Growable, GrowsList}
+use Rattle.rising.specs.Rising.{Takable}
 use Rattle.inserting.specs.Putting.{Extendable, Weighable, Extends}
 use Rattle.inserting.proofs.First.{first-links, list-weighs}
 use Rattle.adding.specs.Steps.{RisingFirst}
@@ -59,15 +60,8 @@ module _ {p w e j l : List ℕ} {xs : List ℕ} (a : Addable (withWork (net p w)
 
   -- a first list that rises can be grown as it stands
   module _ (r : RisingFirst p xs) where
-    pub rising-growable : Growable p w xs j
-    rising-growable = record {
-      blank = r .blank;
-      rises = r .rises;
-      few = a .net .few;
-      long = a .net .long;
-      room = list-weighs (add-extendable {e′ = e} refl) add-weighable .1;
-      long-jump = a .work .jump;
-    }
+    pub rising-takable : Takable xs w p
+    rising-takable = record { rises = r .rises; few = a .net .few; long = a .net .long; room = list-weighs (add-extendable {e′ = e} refl) add-weighable .1 }
 
-    pub rising-extends : {p′ w′ e′ j′ l′ : List ℕ} → GrowsList xs p w e j l p′ w′ e′ j′ l′ → Extends p xs e j l p′ e′ j′ l′
-    rising-extends g = record { grown = g .grown ∙ first-links (edges xs) (r .blank) refl; clear = g .clear }
+    pub rising-extends : {p′ e′ j′ l′ : List ℕ} → p′ ≡ forest (length p) (edges xs) → workOf e′ j′ l′ ≡ cleared (workOf e j l) → Extends p xs e j l p′ e′ j′ l′
+    rising-extends g c = record { grown = g ∙ first-links (edges xs) (r .blank) refl; clear = c }

@@ -24,5 +24,4 @@ pub record Differ (was is : List ℕ) (r : ℕ) : Type 0 where
 pub record Fallen (was is : List ℕ) (r : ℕ) : Type 0 where
   pub long : length is ≡ length was
   pub falls : (z : ℕ) → getD is z absent ≤ getD was z absent
-  pub same : (z : ℕ) → z < r → getD is z absent ≡ getD was z absent
-  pub there : (r ≡ absent) ⊎ ((r < length was) × (getD is r absent < getD was r absent))
+  pub differ : Differ was is r

@@ -4,13 +4,16 @@ use bucket::end_of;
 use net::Net;
 use table::wide;
 ghost use mathlib.Core.Path.{_≡_};
-ghost use mathlib.Core.Bool.{true};
-ghost use lib.ListN.{length};
+ghost use mathlib.Core.Bool.{true, false};
+ghost use lib.ListN.{length, replicate};
 ghost use Rattle.game.specs.Edge.{edges as edgesOf};
-ghost use Rattle.game.specs.Game.{absent};
+ghost use Rattle.game.specs.Game.{absent, forest};
 ghost use Rattle.moving.specs.Steps.{Differ};
+ghost use Rattle.bucket.specs.Ends.{tallied};
+ghost use Rattle.growth.specs.Work.{workOf, cleared};
+ghost use Rattle.growth.specs.Growth.{newParents, Untouched};
 ghost use Rattle.growth.specs.Moves.{Moves};
-ghost use Rattle.rising.specs.Rising.{Rises, Raisable, RaisesList, Growable, GrowsList};
+ghost use Rattle.rising.specs.Rising.{Rises, Takable};
 
 // Whether no edge of a list has a fault and no upper end is below the one before. The list is read up to the first that breaks either,
 // which in most lists is one of the first.
@@ -35,8 +38,12 @@ pub fn is_rising(n: usize, edges: &[u32]) -> bool
 // Takes the edges in one after the other: weighs the lower end of each, and climbs from it to the upper. Answers the lowest vertex that
 // moved.
 fn raise_list(edges: &[u32], weights: &mut [u32], parents: &mut [u32], jump: &mut [u32]) -> u32
-    requires { ⌜ Raisable (now edges) (now weights) (now parents) (now jump) ⌝ }
-    ensures { λ r. ⌜ RaisesList (now (edges .entry)) (now (weights .entry)) (now (parents .entry)) (now (jump .entry)) (now (weights .exit)) (now (parents .exit)) (now (jump .exit)) × Moves (now (parents .entry)) (now (jump .entry)) absent (now (parents .exit)) (now (jump .exit)) r ⌝ }
+    requires { ⌜ Takable (now edges) (now weights) (now parents) × (now jump ≡ replicate (length (now parents)) absent) ⌝ }
+    ensures { λ r. ⌜
+        (newParents (now (parents .exit)) (now (jump .exit)) ≡ forest (length (now (parents .entry))) (edgesOf (now (edges .entry))))
+        × (now (weights .exit) ≡ tallied false (edgesOf (now (edges .entry))) (now (weights .entry)))
+        × Untouched (now (parents .entry)) (now (jump .entry)) (now (parents .exit)) (now (jump .exit))
+        × Moves (now (parents .entry)) (now (jump .entry)) absent (now (parents .exit)) (now (jump .exit)) r ⌝ }
 {
     let mut moved = Net::ABSENT;
     let mut i = 0;
@@ -63,8 +70,12 @@ pub fn grow_list(
     jump: &mut [u32],
     lower: &mut [u32],
 ) -> u32
-    requires { ⌜ Growable (now parents) (now weights) (now edges) (now jump) ⌝ }
-    ensures { λ r. ⌜ GrowsList (now (edges .entry)) (now (parents .entry)) (now (weights .entry)) (now (ends .entry)) (now (jump .entry)) (now (lower .entry)) (now (parents .exit)) (now (weights .exit)) (now (ends .exit)) (now (jump .exit)) (now (lower .exit)) × Differ (now (parents .entry)) (now (parents .exit)) r ⌝ }
+    requires { ⌜ Takable (now edges) (now weights) (now parents) × (now parents ≡ replicate (length (now parents)) absent) × (length (now jump) ≡ length (now parents)) ⌝ }
+    ensures { λ r. ⌜
+        (now (parents .exit) ≡ forest (length (now (parents .entry))) (edgesOf (now (edges .entry))))
+        × (now (weights .exit) ≡ tallied false (edgesOf (now (edges .entry))) (now (weights .entry)))
+        × (workOf (now (ends .exit)) (now (jump .exit)) (now (lower .exit)) ≡ cleared (workOf (now (ends .entry)) (now (jump .entry)) (now (lower .entry))))
+        × Differ (now (parents .entry)) (now (parents .exit)) r ⌝ }
 {
     table::fill(jump, Net::ABSENT);
     let moved = raise_list(edges, weights, parents, jump);

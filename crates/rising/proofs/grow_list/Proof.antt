@@ -18,13 +18,7 @@ fill-requires c κs = search needs
 raise-list-requires : tie.Need-raise-list-requires
 raise-list-requires c κs =
     let g = c .before .before .before .before .before .before .before .before .before .before .before .before .before .pre in
-    record {
-      rises = g .rises;
-      few = g .few;
-      long = g .long;
-      room = g .room;
-      blank-jump = c .before .before .before .before .before .fill .ensures ∙ ap (λ (n : ℕ). replicate n absent) (g .long-jump);
-    }
+    (g .0, c .before .before .before .before .before .fill .ensures ∙ ap (λ (n : ℕ). replicate n absent) (g .2))
 
 clear-requires : tie.Need-clear-requires
 clear-requires c κs = search needs
@@ -46,15 +40,13 @@ same-length-5 c = search needs
 
 returns : tie.Need-returns
 returns c =
-    let g = c .before .before .before .before .before .before .before .before .before .before .before .before .before .before .before .before .before .before .before .before .before .before .before .before .before .before .before .before .before .before .pre in
+    let (g, blank, long) = c .before .before .before .before .before .before .before .before .before .before .before .before .before .before .before .before .before .before .before .before .before .before .before .before .before .before .before .before .before .before .pre in
     let l : tie.After-raise-list = c .before .before .before .before .before .before .before .before .before .before .before .before .before .before .before .before in
-    let (r, m) = l .raise-list .ensures in (
-      record {
-        grown = new-whole (omega (arith, g .few)) (faultless-proper _ _ (rises-faultless (g .rises))) refl (l .raise-list .kept .1 .1 .0) (links-blank _ (g .blank)) (r .untouched) (r .raised);
-        weighed = r .weighed;
-        clear = c .before .before .before .before .before .before .clear .ensures ∙ same-room _ _ _ _ _ _ refl (l .raise-list .kept .1 .1 .1 .0 ∙ c .before .before .before .before .before .before .before .before .before .before .before .before .before .before .before .before .before .before .before .before .before .before .fill .kept .0) refl;
-      },
-      moves-differ m,
+    let (raised, weighed, untouched, moves) = l .raise-list .ensures in (
+      new-whole (omega (arith, g .few)) (faultless-proper _ _ (rises-faultless (g .rises))) refl (l .raise-list .kept .1 .1 .0) (links-blank _ blank) untouched raised,
+      weighed,
+      c .before .before .before .before .before .before .clear .ensures ∙ same-room _ _ _ _ _ _ refl (l .raise-list .kept .1 .1 .1 .0 ∙ c .before .before .before .before .before .before .before .before .before .before .before .before .before .before .before .before .before .before .before .before .before .before .fill .kept .0) refl,
+      moves-differ moves,
     )
 
 pub grow-list-spec : {M : Type 1} → statement M

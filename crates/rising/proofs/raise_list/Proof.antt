@@ -39,15 +39,15 @@ abbrev μ-loop : tie.MeasureT-loop
 
 loop-holds : tie.Need-loop-holds Inv-loop μ-loop
 loop-holds c =
-    let r = c .before .before .before .before .pre in
+    let (r, blank) = c .before .before .before .before .pre in
     record {
       inside = omega arith;
       same = refl;
-      upward = subst (Upward _) (sym (r .blank-jump)) (upward-blank _);
+      upward = subst (Upward _) (sym (blank)) (upward-blank _);
       untouched = untouched-none _ _;
       moves = moves-none _ _ _;
       counting = record { long = r .long; room = r .room; same = refl };
-      taking = subst₂ (Taking _ _ _) (sym (new-blank _ refl (r .blank-jump))) (sym (r .blank-jump)) (taking-start (omega (arith, r .few)) (r .rises));
+      taking = subst₂ (Taking _ _ _) (sym (new-blank _ refl (blank))) (sym (blank)) (taking-start (omega (arith, r .few)) (r .rises));
     }
 
 add-loop : tie.Need-add-loop Inv-loop μ-loop
@@ -100,7 +100,7 @@ climb-requires : tie.Need-climb-requires Inv-loop μ-loop
 climb-requires c κs =
     let t = c .before .before .before .before .before .before .before .before .before .loop .inv in
     let e = taking-ends (t .taking) (edges-drop _ _ (c .before .before .before .before .before .before .before .before .loop-test .taken)) in
-    (omega (arith, c .before .before .before .before .end-of2 .ensures, e .1, t .same), omega (arith, t .same, c .before .before .before .before .before .before .before .before .before .before .before .before .before .before .pre .few), subst (λ (m : ℕ). Upward m (c .before .before .before .before .before .before .before .before .before .loop .jump)) (sym (t .same)) (t .upward))
+    (omega (arith, c .before .before .before .before .end-of2 .ensures, e .1, t .same), omega (arith, t .same, c .before .before .before .before .before .before .before .before .before .before .before .before .before .before .pre .0 .few), subst (λ (m : ℕ). Upward m (c .before .before .before .before .before .before .before .before .before .loop .jump)) (sym (t .same)) (t .upward))
 
 add-i : tie.Need-add-i Inv-loop μ-loop
 add-i c = search needs
@@ -125,24 +125,21 @@ loop-again c =
     }
 
 same-length : tie.Need-same-length Inv-loop μ-loop
-same-length c = c .before .loop .inv .counting .long ∙ sym (c .before .before .before .before .before .before .pre .long)
+same-length c = c .before .loop .inv .counting .long ∙ sym (c .before .before .before .before .before .before .pre .0 .long)
 
 same-length-2 : tie.Need-same-length-2 Inv-loop μ-loop
 same-length-2 c = search needs
 
 same-length-3 : tie.Need-same-length-3 Inv-loop μ-loop
-same-length-3 c = c .before .loop .inv .upward .long ∙ sym (ap length (c .before .before .before .before .before .before .pre .blank-jump) ∙ length-replicate _ absent)
+same-length-3 c = c .before .loop .inv .upward .long ∙ sym (ap length (c .before .before .before .before .before .before .pre .1) ∙ length-replicate _ absent)
 
 returns : tie.Need-returns Inv-loop μ-loop
 returns c =
     let t = c .before .loop .inv in
-    let r = c .before .before .before .before .before .before .pre in
     let none = edges-end _ _ (c .loop-test .left) in (
-      record {
-        raised = taking-end (t .taking) none (faultless-proper _ _ (rises-faultless (r .rises)));
-        untouched = t .untouched;
-        weighed = counting-end (endOf false) (t .counting) none;
-      },
+      taking-end (t .taking) none (faultless-proper _ _ (rises-faultless (c .before .before .before .before .before .before .pre .0 .rises))),
+      counting-end (endOf false) (t .counting) none,
+      t .untouched,
       t .moves,
     )
 

@@ -4,7 +4,7 @@ use Rattle.moving.specs.Answer.{verdict}
 use Rattle.refusal.proofs.Ends.{ends-refused, ends-accepted}
 use Rattle.adding.specs.Add.{addOutcome}
 use Rattle.adding.proofs.Accepted.{addable}
-use Rattle.adding.proofs.Outcomes.{add-extendable, add-weighable, add-ends, add-moved, rising-growable, rising-extends}
+use Rattle.adding.proofs.Outcomes.{add-extendable, add-weighable, add-ends, add-moved, rising-takable, rising-extends}
 use Rattle.adding.proofs.Steps.{counted-light, list-decides, list-refused, list-counted, rising-passes}
 use borrow.Author.Needs.{needs}
 use Rattle.adding.proofs.adding.add.Statement.{statement}
@@ -45,7 +45,8 @@ grow-list-requires c κs =
     let (counted, r) = c .before .before .before .before .before .before .is-rising-first .ensures (c .before .before .before .before .before .if2 .taken) in
     let l = counted-light (c .before .before .before .before .before .before .before .before .before .is-long .result) (c .before .before .before .before .before .before .before .before .before .before .before .before .read-tables .result .heavy) counted in
     let o = c .before .before .before .before .before .before .before .before .before .before .before .before .read-tables .ensures .passed (c .before .before .before .before .before .before .before .before .before .before .if1 .left) in
-    rising-growable (addable _ _ (rising-passes o l r)) r
+    let a = addable _ _ (rising-passes o l r) in
+    (rising-takable a r, r .blank, a .work .jump)
 
 accepted-requires : tie.Need-accepted-requires
 accepted-requires c κs = search needs
@@ -72,9 +73,9 @@ returns-2 c =
     let l = counted-light (c .before .before .before .before .before .before .before .before .before .before .before .before .before .before .before .before .before .before .before .before .before .is-long .result) (c .before .before .before .before .before .before .before .before .before .before .before .before .before .before .before .before .before .before .before .before .before .before .before .before .read-tables .result .heavy) counted in
     let z = rising-passes (c .before .before .before .before .before .before .before .before .before .before .before .before .before .before .before .before .before .before .before .before .before .before .before .before .read-tables .ensures .passed (c .before .before .before .before .before .before .before .before .before .before .before .before .before .before .before .before .before .before .before .before .before .before .if1 .left)) l r in
     let a = addable _ _ z in
-    let (g, d) = c .before .before .before .before .before .before .before .before .before .before .before .grow-list .ensures in
-    let x = rising-extends a r g in
-    rw (c .accepted .ensures) (ends-accepted _ _ _ _ (add-moved a x d refl) z (add-ends a refl (x, g .weighed)))
+    let (g, w, k, d) = c .before .before .before .before .before .before .before .before .before .before .before .grow-list .ensures in
+    let x = rising-extends a r g k in
+    rw (c .accepted .ensures) (ends-accepted _ _ _ _ (add-moved a x d refl) z (add-ends a refl (x, w)))
 
 read-list-requires : tie.Need-read-list-requires
 read-list-requires c κs =

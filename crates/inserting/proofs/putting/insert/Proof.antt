@@ -1,6 +1,5 @@
 use native.Mathlib.Omega.{arith}
 use mathlib.Core.Path.{refl, _∙_}
-use Rattle.moving.proofs.Fallen.{fallen-differ}
 use Rattle.growth.proofs.Regrown.{filed-growable}
 use Rattle.inserting.proofs.Put.{put-all, rest-part, rest-faultless, rest-room, rest-grown, rest-moved}
 use Rattle.growth.proofs.Rooms.{same-room}
@@ -39,7 +38,7 @@ returns c =
         grown = put-all (p .0) (omega (arith, c .before .before .before .before .before .before .before .before .before .before .before .before .before .before .before .before .before .before .before .before .before .pre .table .few)) (c .before .before .before .before .before .before .before .before .before .before .if1 .taken);
         clear = c .before .before .before .before .before .before .clear .ensures;
       },
-      fallen-differ (p .1),
+      p .1 .differ,
     )
 
 mul-file-edges : tie.Need-mul-file-edges
