@@ -64,9 +64,24 @@ fn left(keep: bool, u: u32) -> u32
     if keep { u } else { 0 }
 }
 
+// From how many vertices on a bucket is weighed before a climb is made from any of it.
+const MANY: usize = 8;
+
+// Weighs each vertex of a list.
+fn weigh_all(vertices: &[u32], weights: &mut [u32])
+    requires { ⌜ Light (now weights) (now vertices) ⌝ }
+    ensures { λ _. ⌜ Weighs (now (vertices .entry)) (now (weights .entry)) (now (weights .exit)) ⌝ }
+{
+    let mut i = 0;
+    while i < vertices.len() {
+        weigh(vertices[i], weights);
+        i += 1;
+    }
+}
+
 // Climbs for y from each vertex of y's bucket and weighs it. Its place is kept, or cleared while it is at hand. Answers the lowest vertex
 // that moved so far.
-fn gather(
+fn take_in(
     y: u32,
     keep: bool,
     bucket: &mut [u32],
@@ -88,6 +103,28 @@ fn gather(
         i += 1;
     }
     lowest
+}
+
+// Takes in y's bucket. Of a large one the weights are counted first, apart from the climbs: their places lie far apart, and one need not
+// wait for another.
+fn gather(
+    y: u32,
+    keep: bool,
+    bucket: &mut [u32],
+    weights: &mut [u32],
+    parents: &mut [u32],
+    jump: &mut [u32],
+    moved: u32,
+) -> u32
+    requires { ⌜ (y < length (now parents)) × (length (now parents) ≤ maxVertices) × Upward (length (now parents)) (now jump) × Light (now weights) (now bucket) ⌝ }
+    ensures { λ r. ⌜ Gathers y keep (now (bucket .entry)) (now (weights .entry)) (now (parents .entry)) (now (jump .entry)) (now (bucket .exit)) (now (weights .exit)) (now (parents .exit)) (now (jump .exit)) × Moves (now (parents .entry)) (now (jump .entry)) moved (now (parents .exit)) (now (jump .exit)) r ⌝ }
+{
+    if (bucket.len() < MANY) | (weights.len() == 0) {
+        return take_in(y, keep, bucket, weights, parents, jump, moved);
+    }
+    weigh_all(bucket, weights);
+    let mut none = [0u32; 0];
+    take_in(y, keep, bucket, &mut none, parents, jump, moved)
 }
 
 // What raising answers: where the last bucket ends, and the lowest vertex that moved.
