@@ -1,7 +1,7 @@
 -- What adding and joining answer is what a viewer may go by: parents only fall, those below the answer are as before, and a table that is
 -- reread from there on is the new one.
 -- Assumes nothing.
-use mathlib.Core.Path.{_≡_, sym, ap, subst, subst₂, _∙_}
+use mathlib.Core.Path.{_≡_, sym, subst₂}
 use mathlib.Core.List.{List, _++_}
 use Prim.Native.Nat.{ℕ}
 use native.Mathlib.Omega.{arith}

@@ -1,17 +1,17 @@
 -- A viewer that rereads what each answer asks for sees every net as it is, after every list of calls.
 -- Assumes nothing.
-use mathlib.Core.Path.{_≡_, refl, sym, ap, subst, _∙_}
+use mathlib.Core.Path.{_≡_, refl, ap, _∙_}
 use mathlib.Core.Bool.{cond}
 use mathlib.Core.List.{List, [], _∷_}
 use Prim.Native.Nat.{ℕ, zero, suc}
 use lib.ListN.{length}
 use Rattle.game.specs.Net.{Net}
 use Rattle.refusal.specs.Refusal.{unless}
-use Rattle.refusal.specs.Verdict.{Verdict, accepted, refused, judged, isAccepted}
-use Rattle.refusal.specs.Outcome.{Outcome, decided}
+use Rattle.refusal.specs.Verdict.{accepted, judged, isAccepted}
+use Rattle.refusal.specs.Outcome.{decided}
 use Rattle.moving.specs.declared.Moved.{Moved}
 use Rattle.moving.specs.Followed.{reread, Followed}
-use Rattle.growth.specs.Work.{Work, NetWithWork, withWork}
+use Rattle.growth.specs.Work.{NetWithWork, withWork}
 use Rattle.starting.specs.Start.{startRefusal, startOutcome}
 use Rattle.adding.specs.Add.{addRefusal, addOutcome}
 use Rattle.joining.specs.Join.{joinRefusal, joinOutcome}

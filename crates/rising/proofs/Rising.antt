@@ -1,8 +1,8 @@
 -- Reading a list for whether it rises; and what that says of its faults.
 -- Assumes nothing.
-use mathlib.Core.Path.{_≡_, refl, sym, ap, subst, _∙_}
+use mathlib.Core.Path.{_≡_, refl, sym, subst, _∙_}
 use mathlib.Core.Bool.{true, false, _||_}
-use mathlib.Core.List.{List, [], _∷_}
+use mathlib.Core.List.{List}
 use Prim.Native.Nat.{ℕ, _+_, _≤_, _<_}
 use native.Mathlib.Omega.{arith}
 use lib.Dec.{eqb, leb, ltb}
@@ -11,7 +11,7 @@ use borrow.Author.Tests.{ltb-false}
 use Rattle.game.specs.Edge.{Edge, _─_, edges}
 use Rattle.game.proofs.Bools.{or-neither}
 use Rattle.game.proofs.Edges.{edges-drop, edges-end}
-use Rattle.refusal.specs.Refusal.{fault, firstFault}
+use Rattle.refusal.specs.Refusal.{firstFault}
 use Rattle.refusal.proofs.Fault.{first-fault-on}
 use Rattle.bucket.specs.Ends.{endOf}
 use Rattle.bucket.proofs.Upper.{upper-faultless}

@@ -1,10 +1,10 @@
 -- From climbs to the forest, edge by edge: every edge that was taken in is a walk in the forest, so that in the end the table is the
 -- elimination forest of the list.
 -- Assumes nothing.
-use mathlib.Core.Path.{_≡_, refl, sym, ap, subst, subst₂, _∙_}
-use mathlib.Core.Logic.{_≢_, _⊎_, inl, inr, ⊎-elim, by-cases}
+use mathlib.Core.Path.{_≡_, refl, sym, subst, subst₂, _∙_}
+use mathlib.Core.Logic.{_⊎_, inl, inr, ⊎-elim, by-cases}
 use mathlib.Core.Bool.{true, false}
-use mathlib.Core.List.{List, [], _∷_, List·Memᴰ, List·Memᴰ·head, List·Memᴰ·eq-of-singleton}
+use mathlib.Core.List.{List, [], _∷_, List·Memᴰ·head, List·Memᴰ·eq-of-singleton}
 use Prim.Native.Nat.{ℕ, _≤_, _<_}
 use native.Mathlib.Nat.{le-refl, le-of-lt}
 use native.Mathlib.Decide.{decLt}
@@ -16,13 +16,11 @@ use Rattle.game.specs.Tree.{links}
 use Rattle.game.specs.Graph.{Linked, forth, back, Proper}
 use Rattle.game.proofs.Conn.{Conn, conn-step, linked-sym, linked-cases, linked-right}
 use Rattle.game.proofs.Proper.{edge-left, edge-right, linked-nil}
-use Rattle.refusal.specs.Refusal.{fault}
-use Rattle.refusal.proofs.Fault.{faultless, faultless-proper}
+use Rattle.refusal.proofs.Fault.{faultless}
 use Rattle.bucket.specs.Ends.{endOf}
 use Rattle.growth.specs.Growth.{Standing, Climbed, Connects, newParents}
 use Rattle.growth.proofs.Raise.{kept-conn, standing-up, raise-start, raise-end}
-use Rattle.rising.specs.Rising.{Rises, stop, rise}
-use Rattle.rising.proofs.Rising.{rises-faultless}
+use Rattle.rising.specs.Rising.{Rises, rise}
 
 -- the edges of E but for those of T are taken in
 pub record Taking (n : ℕ) (E T : List Edge) (p jump : List ℕ) : Type 0 where

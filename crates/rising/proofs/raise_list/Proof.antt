@@ -1,10 +1,10 @@
 use mathlib.Core.Path.{_≡_, refl, sym, ap, subst, subst₂, _∙_}
 use mathlib.Core.Bool.{false}
 use mathlib.Core.List.{List}
-use Prim.Native.Nat.{ℕ, _+_, _-_, _≤_, _<_}
+use Prim.Native.Nat.{ℕ, _-_, _≤_, _<_}
 use native.Mathlib.Omega.{arith}
-use lib.ListN.{length, getD, drop, length-set, length-replicate}
-use Rattle.game.specs.Edge.{Edge, _─_, edges as edgesOf}
+use lib.ListN.{length, drop, length-replicate}
+use Rattle.game.specs.Edge.{edges as edgesOf}
 use Rattle.game.specs.Game.{absent}
 use Rattle.game.proofs.Edges.{edges-drop, edges-end}
 use Rattle.refusal.proofs.Fault.{faultless-proper}
