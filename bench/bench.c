@@ -18,14 +18,14 @@ static struct tables make_tables(size_t n, size_t m)
     return (struct tables){room(n, 4), room(n, 4), room(n, 4), room(n, 4), room(n + (m > n ? m : n), 4), room(n, 4), room(n, 4),
                            room(2 * m, 4), room(n + 1, sizeof(int)), room(m, sizeof(int)), room(8 * n, 1),
                            room(n, 4), room(n, 4), room(n, 4), room(MAX_BLOCKS, 4),
-                           room(n, 4), room(n, 4), room(m, 4)};
+                           room(n, 4), room(m, 4), room(n, 4), room(n, 4)};
 }
 
 static void free_tables(struct tables *t)
 {
     void *all[] = {t->parents, t->weights, t->ends,  t->jump,    t->lower, t->parents2, t->weights2,   t->ranks,
                    t->start,   t->row,     t->bytes, t->carried, t->top,   t->block,    t->block_loads, t->reach,
-                   t->block_count, t->edge_blocks};
+                   t->edge_blocks, t->block_count, t->edges_taken};
     for (size_t i = 0; i < sizeof all / sizeof *all; i++)
         free(all[i]);
 }
@@ -78,8 +78,8 @@ static void report(const struct net *net, struct tables *t, uint32_t limit, uint
 {
     size_t n = net->vertices, m = net->edges;
     must(niqastul_report(t->parents, n, t->weights, n, limit, blocks, net->list, 2 * m, t->carried, n, t->top, n, t->block, n,
-                         t->block_loads, blocks, t->edge_blocks, m, t->reach, n, t->block_count, n, t->parents2, n, t->weights2, n,
-                         t->ends, n, t->jump, n, t->lower, n + m, bound, volume) == 0,
+                         t->block_loads, blocks, t->edge_blocks, m, t->reach, n, t->block_count, n, t->edges_taken, n, t->parents2, n,
+                         t->weights2, n, t->ends, n, t->jump, n, t->lower, n + m, bound, volume) == 0,
          "report refused");
 }
 
@@ -116,6 +116,14 @@ static uint32_t compare_all(const uint32_t *parents, uint32_t *copy, size_t n)
     return x < n ? (uint32_t)x : NIQASTUL_ABSENT;
 }
 
+/* A copy would leave a table warm for the next contender. */
+static void exchange(uint32_t **one, uint32_t **other)
+{
+    uint32_t *table = *one;
+    *one = *other;
+    *other = table;
+}
+
 static volatile uint64_t sink;
 
 /* Every contender runs once in each round, so that what else the machine does meets all alike. */
@@ -124,12 +132,13 @@ static void measure(const char *family, const struct net *net)
     size_t n = net->vertices, m = net->edges, half = m / 2, few = m < FEW ? m : FEW;
     struct tables t = make_tables(n, m);
     uint32_t *first = room(n, 4), *first_weights = room(n, 4), *second = room(n, 4), *second_weights = room(n, 4);
-    uint32_t *most = room(n, 4), *most_weights = room(n, 4);
+    uint32_t *most = room(n, 4), *most_weights = room(n, 4), *plain_count = room(n, 4), *plain_taken = room(n, 4);
     int *parents = NULL;
     double grow, peer, triplets, plain, added, one_pass, joined, plain_joined, relabelled, checked_relabelled, plain_relabelled;
     double compared, saved, plain_saved, was_read, plain_was_read;
-    static const uint32_t blocks[] = {16, MAX_BLOCKS};
-    double divided[] = {1e300, 1e300}, plain_divided[] = {1e300, 1e300}, counted = 1e300, reported = 1e300, plain_reported = 1e300;
+    static const uint32_t blocks[] = {16, MAX_BLOCKS}, reported_blocks[] = {16, 2};
+    double divided[] = {1e300, 1e300}, plain_divided[] = {1e300, 1e300};
+    double reported[] = {1e300, 1e300}, plain_reported[] = {1e300, 1e300}, counted = 1e300;
     grow = peer = triplets = plain = added = one_pass = joined = plain_joined = relabelled = checked_relabelled = plain_relabelled = 1e300;
     compared = saved = plain_saved = was_read = plain_was_read = 1e300;
 
@@ -180,15 +189,20 @@ static void measure(const char *family, const struct net *net)
                  "the library and plain C disagree on dividing");
         }
 
-        uint32_t limit = limit_for(blocks[0], t.weights, n);
-        uint64_t bound, volume, plain_bound, plain_volume;
         int *counts = NULL;
         TIME(counted, , counts = suitesparse_counts(net, parents, &t));
-        TIME(plain_reported, , plain_report(net, limit, blocks[0], &t, &plain_bound, &plain_volume));
-        TIME(reported, , report(net, &t, limit, blocks[0], &bound, &volume));
-        must(bound == plain_bound && volume == plain_volume && volume <= bound, "the library and plain C disagree on a report");
-        for (size_t x = 0; x < n; x++)
-            must((uint32_t)counts[x] == t.reach[x] + 1, "the library and SuiteSparse disagree on reaches");
+        for (int k = 0; k < 2; k++) {
+            uint32_t limit = limit_for(reported_blocks[k], t.weights, n);
+            uint64_t bound, volume, plain_bound, plain_volume;
+            TIME(plain_reported[k], , plain_report(net, limit, reported_blocks[k], &t, &plain_bound, &plain_volume));
+            exchange(&plain_count, &t.block_count), exchange(&plain_taken, &t.edges_taken);
+            TIME(reported[k], , report(net, &t, limit, reported_blocks[k], &bound, &volume));
+            must(bound == plain_bound && volume == plain_volume && volume <= bound, "the library and plain C disagree on a report");
+            must(!memcmp(plain_count, t.block_count, 4 * n), "the library and plain C disagree on block counts");
+            must(!memcmp(plain_taken, t.edges_taken, 4 * n), "the library and plain C disagree on the edges taken");
+            for (size_t x = 0; x < n; x++)
+                must((uint32_t)counts[x] == t.reach[x] + 1, "the library and SuiteSparse disagree on reaches");
+        }
         free(counts);
 
         TIME(plain_relabelled, , plain_relabel(net, net->order, t.ranks, t.ends));
@@ -213,10 +227,13 @@ static void measure(const char *family, const struct net *net)
         row(k ? "divide 1000" : "divide 16", family, net);
         printf("\tniqastul\t%.4f\tplain C\t%.4f\tone pass\t%.4f\n", divided[k], plain_divided[k], one_pass);
     }
-    row("report", family, net);
-    printf("\tniqastul\t%.4f\tSuiteSparse\t%.4f\tplain C\t%.4f\n", reported, peer + counted, plain_reported);
+    for (int k = 0; k < 2; k++) {
+        row(k ? "report 2" : "report 16", family, net);
+        printf("\tniqastul\t%.4f\tSuiteSparse\t%.4f\tplain C\t%.4f\n", reported[k], peer + counted, plain_reported[k]);
+    }
     fflush(stdout);
     free(first), free(first_weights), free(second), free(second_weights), free(most), free(most_weights), free(parents);
+    free(plain_count), free(plain_taken);
     free_tables(&t);
 }
 

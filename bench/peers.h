@@ -15,7 +15,8 @@ struct tables {
     uint8_t *bytes;                                    /* 8 to a vertex */
     uint32_t *carried, *top, *block;                   /* of a division */
     uint32_t *block_loads;                             /* MAX_BLOCKS entries */
-    uint32_t *reach, *block_count, *edge_blocks;       /* of a report */
+    uint32_t *reach, *edge_blocks;                     /* of a report */
+    uint32_t *block_count, *edges_taken;
 };
 
 /* SuiteSparse: compressed columns of the upper triangle from the list, then cs_etree. The columns are counted and filled here, into
@@ -38,8 +39,8 @@ void plain_save(size_t n, const struct tables *t);
 void plain_read(size_t n, struct tables *t);
 /* Divides the net in parents and weights: children sorted by what they carry where some must be cut, blocks in a heap. */
 void plain_divide(size_t n, uint32_t limit, uint32_t blocks, struct tables *t);
-/* Grows the net of the edges, divides it, and counts reaches and blocks: what a report does, less refusals and comparison. The figures
- * go to bound and volume. */
+/* Grows the net of the edges, divides it, and counts reaches, blocks and the edges taken for these: what a report does, less refusals and
+ * comparison. The figures go to bound and volume. */
 void plain_report(const struct net *net, uint32_t limit, uint32_t blocks, struct tables *t, uint64_t *bound, uint64_t *volume);
 
 #endif

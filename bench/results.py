@@ -15,7 +15,8 @@ MEASURED = {
     "read": ("Reading", "read", "plain C"),
     "divide 16": ("Dividing into 16 blocks", "divide-16", "plain C"),
     "divide 1000": ("Dividing into 1,000 blocks", "divide-1000", "plain C"),
-    "report": ("Reporting on a division into 16 blocks", "report", "plain C"),
+    "report 16": ("Reporting on a division into 16 blocks", "report", "plain C"),
+    "report 2": ("Reporting on a division into 2 blocks", "report-2", "plain C"),
     "index": ("Building an index of neighbours", "index", "checked C"),
     "query": ("Querying an index for one rank", "query", "scan"),
     "threads": ("Growing a net in two threads", "threads", "one thread"),
@@ -30,8 +31,10 @@ net's two tables once. SuiteSparse can neither add nor join: its time there is t
 the same parents. Adding tells where the forest moved; `compare all` is what a host that is not told does besides: plain C that
 compares all parents with a copy from before and copies them anew, and has to find the same rank. Dividing is measured with a
 limit of a quarter of a block's even share of the total, or the largest weight. A report grows the net of the edges and compares
-it, counts reaches, divides, and counts blocks; SuiteSparse's time there is that of `cs_etree` with its columns, `cs_post` and
-`cs_counts`, whose column counts have to be the reaches. An index is built of the list in two halves; `plain C` is there the
+it, counts reaches, divides, and counts the blocks of each vertex along its edges, in the order of the list, until all are met. All
+block counts and edges taken have to be those of plain C, which lays the blocks of each vertex's edges side by side by a counting
+sort of both ends. SuiteSparse's time there is that of `cs_etree` with its columns, `cs_post` and `cs_counts`, whose column counts
+have to be the reaches. An index is built of the list in two halves; `plain C` is there the
 counting sort without refusals, `cs_compress` SuiteSparse's compressed columns of each edge as two triplets, which have to be
 the same tables. A query tests all starts; `one pass` reads them once, and `scan` is what a query takes without an index: all
 edges of the list, each tested for the rank. Growing in two threads is

@@ -54,7 +54,7 @@ int main(int count, char **files)
     uint32_t *ranks = table(m), *parents = table(n), *weights = table(n);
     uint32_t *ends = table(n), *jump = table(n), *lower = table(lower_length);
     uint32_t *carried = table(n), *top = table(n), *block = table(n), *loads = table(k), *edge_blocks = table(m / 2);
-    uint32_t *reach = table(n), *block_count = table(n), *its_parents = table(n), *its_weights = table(n);
+    uint32_t *reach = table(n), *block_count = table(n), *edges_taken = table(n), *its_parents = table(n), *its_weights = table(n);
     uint32_t moved; /* where the forest moved: of use to who has read it before */
     uint64_t bound, volume;
 
@@ -62,8 +62,8 @@ int main(int count, char **files)
     accept(niqastul_start(parents, n, weights, n));
     accept(niqastul_add(parents, n, weights, n, ranks, m, ends, n, jump, n, lower, lower_length, &moved));
     accept(niqastul_report(parents, n, weights, n, limit, k, ranks, m, carried, n, top, n, block, n, loads, k, edge_blocks, m / 2,
-                           reach, n, block_count, n, its_parents, n, its_weights, n, ends, n, jump, n, lower, lower_length,
-                           &bound, &volume));
+                           reach, n, block_count, n, edges_taken, n, its_parents, n, its_weights, n, ends, n, jump, n,
+                           lower, lower_length, &bound, &volume));
 
     for (size_t rank = 0; rank < n; rank++) {
         printf("%zu %u ", rank, order[rank]);

@@ -2,7 +2,8 @@
 
 Rows of plots with paths between them and a wall across, as a survey would have it. Marks stand at the corners of the plots; ties go
 along the sides of the plots, over some of their diagonals and across the paths, and through the wall at its gate alone. Written are
-marks.ord, ties.rec, want.rec and places.txt. The order is a nested dissection by places: what parts the yard is eliminated last."""
+marks.ord, ties.rec, want.rec, places.txt, and three.rec, which wants three blocks: four are too many for any mark to meet them all. The
+order is a nested dissection by places: what parts the yard is eliminated last."""
 
 import os
 import random
@@ -77,6 +78,7 @@ def main(folder):
     written(folder, "marks.ord", dissected(sorted(places), places, neighbours))
     written(folder, "ties.rec", [mark for tie in ties for mark in tie])
     written(folder, "want.rec", [LIMIT, BLOCKS])
+    written(folder, "three.rec", [LIMIT, 3])
     with open(os.path.join(folder, "places.txt"), "w") as file:
         file.writelines(f"{x:.2f} {y:.2f}\n" for _, (x, y) in sorted(places.items()))
 

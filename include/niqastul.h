@@ -168,13 +168,16 @@ uint32_t niqastul_divide(const uint32_t *parents, size_t parents_length,
                          uint32_t *block_loads, size_t block_loads_length);
 
 /* REPORT what a division costs: divides a net as niqastul_divide does and, given the net's own edges in any order, writes what the
- * blocks have to tell each other. An edge belongs to the block of its lower end.
+ * blocks have to tell each other. An edge belongs to the block of its lower end. The blocks of a vertex are counted along its edges, in
+ * the order of the list: up to and with the first edge by which all blocks are met, or to the last edge if they never are. In another
+ * order a vertex may take more or fewer edges; edge_blocks goes along with the list, and everything else stays the same.
  *   reads   parents [n], weights [n]
  *           edges   [m]        in ranks
  *   writes  carried [n], top [n], block [n], block_loads [blocks]      as niqastul_divide
  *           edge_blocks [m / 2]       the block of each edge
  *           reach   [n]        the number of vertices above a vertex that have an edge to it or to a vertex that it is above
  *           block_count [n]    the number of different blocks among the edges of a vertex
+ *           edges_taken [n]    how many of its edges that count took, 0 if it has none
  *           compared_parents [n], compared_weights [n]       end holding the net of the edges
  *           ends [n], jump [n], lower [niqastul_add_lower(n, m)]      work; end as zeros
  *           *bound             the sum of the reaches of the vertices that are cut off
@@ -195,6 +198,7 @@ uint32_t niqastul_report(const uint32_t *parents, size_t parents_length,
                          uint32_t *edge_blocks, size_t edge_blocks_length,
                          uint32_t *reach, size_t reach_length,
                          uint32_t *block_count, size_t block_count_length,
+                         uint32_t *edges_taken, size_t edges_taken_length,
                          uint32_t *compared_parents, size_t compared_parents_length,
                          uint32_t *compared_weights, size_t compared_weights_length,
                          uint32_t *ends, size_t ends_length,

@@ -60,7 +60,7 @@ def report(rng, n):
     given["limit"] = max(2, max(given["weights"])) + rng.randrange(3)
     given |= {"edges": nets.flat(ties), "edge_blocks": nets.garbage(rng, len(ties))}
     given |= {"bound": [rng.getrandbits(64)], "volume": [rng.getrandbits(64)]}
-    return given | {name: nets.garbage(rng, n) for name in ("reach", "block_count", "compared_parents", "compared_weights")}
+    return given | {name: nets.garbage(rng, n) for name in ("reach", "block_count", "edges_taken", "compared_parents", "compared_weights")}
 
 
 MAKERS = {maker.__name__: maker for maker in (relabel, start, add, join, save, read, divide, report, index_inputs.index, index_inputs.query)}

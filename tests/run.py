@@ -15,10 +15,12 @@ import test_replay
 import test_division
 import test_blocks
 import test_limits
+import test_taken
 import test_bindings
 import test_commands
 import test_adding
 import test_neighbours
+import test_busy
 import test_split
 import test_pictures
 import test_parts

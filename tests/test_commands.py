@@ -34,6 +34,12 @@ FAULTS = [(1, {"marks_ord": b""}), (1, {"marks_ord": b"abc"}), (1, {"marks_ord":
           (3, {"marks_ord": file_of(0, 1, 2, 3, 4, 4)}), (3, {"marks_ord": file_of(0, 1, 6), "ties_rec": file_of(7, 7)}),
           (4, {"ties_rec": file_of(0, 1, 2, 6, 3, 3)}), (5, {"ties_rec": file_of(0, 1, 3, 3, 2, 6)})]
 
+# faults of want.rec, alone and beside those of the others
+WANTS = [(6, {"want_rec": b""}), (6, {"want_rec": file_of(4)}), (6, {"want_rec": file_of(4, 2, 1), "marks_ord": bytes(8)}),
+         (8, {"want_rec": file_of(0, 2), "ties_rec": file_of(7, 7)}), (8, {"want_rec": file_of(4, 1001)}), (8, {"want_rec": file_of(4, 0)}),
+         (8, {"want_rec": file_of(calls.MAX_LIMIT + 1, 1)}), (3, {"want_rec": file_of(0, 0), "marks_ord": bytes(8)}),
+         (4, {"want_rec": file_of(1, 2), "ties_rec": file_of(0, 6)}), (22, {"want_rec": file_of(2, 2)})]
+
 
 @test(at_least=400)
 def grown_and_joined(t):
@@ -70,13 +76,9 @@ def untouched(t, folder, words, number, *context):
 @test(at_least=200)
 def refusals(t):
     """Each refusal of files, with no output there and with an old one."""
-    wants = [(6, {"want_rec": b""}), (6, {"want_rec": file_of(4)}), (6, {"want_rec": file_of(4, 2, 1), "marks_ord": bytes(8)}),
-             (8, {"want_rec": file_of(0, 2), "ties_rec": file_of(7, 7)}), (8, {"want_rec": file_of(4, 1001)}), (8, {"want_rec": file_of(4, 0)}),
-             (8, {"want_rec": file_of(calls.MAX_LIMIT + 1, 1)}), (3, {"want_rec": file_of(0, 0), "marks_ord": bytes(8)}),
-             (4, {"want_rec": file_of(1, 2), "ties_rec": file_of(0, 6)}), (22, {"want_rec": file_of(2, 2)})]
     with a_folder() as folder:
         for words in READERS:
-            for number, fault in FAULTS + wants * (words[0] != "grow"):
+            for number, fault in FAULTS + WANTS * (words[0] != "grow"):
                 folder.write(**(WHOLE | fault), out=None)
                 untouched(t, folder, words, number, str(fault)[:200])
                 if words[0] != "split":
@@ -216,7 +218,7 @@ def whole_or_not(t):
             os.rename(folder.path / "out", folder.path / words[0])
 
 
-@test(at_least=24)
+@test(at_least=27)
 def command_line(t):
     """As a program: help and its exit status, usage, what is printed where."""
     def ran(*words, **environment):
@@ -224,7 +226,7 @@ def command_line(t):
         return its.returncode, its.stdout, its.stderr
 
     status, out, _ = ran("-h", NIQASTUL_LIBRARY="/nowhere")
-    words = ("grow", "add", "join", "split", "together", "picture", "neighbours", "exit status", "ties.rec")
+    words = ("grow", "add", "join", "split", "together", "picture", "neighbours", "busy", "exit status", "ties.rec")
     t.true(status == 0 and all(word in out for word in words), out)
     status, out, _ = ran("picture", "-h")
     t.true(status == 0 and "[places.txt]" in out and "ringed" in out, out)
@@ -232,7 +234,8 @@ def command_line(t):
         status, out, _ = ran(command, "-h")
         t.true(status == 0 and f"than in {link}:" in out and "`none moved`" in out, out)
     for words in ((), ("shrink",), ("grow", "a", "b"), ("add", "a", "b", "c"), ("grow", "a", "b", "c", "d"), ("grow", "--fast", "a", "b", "c"),
-                  ("neighbours", "a", "b"), ("neighbours", "a", "b", "0", "c"), ("neighbours", "a", "b", "-1"), ("neighbours", "a", "b", "1.0")):
+                  ("neighbours", "a", "b"), ("neighbours", "a", "b", "0", "c"), ("neighbours", "a", "b", "-1"), ("neighbours", "a", "b", "1.0"),
+                  ("busy", "a", "b"), ("busy", "a", "b", "c", "d")):
         status, out, err = ran(*words)
         t.true(status == 2 and out == "" and "usage: python3 -m niqastul" in err, *words)
     with a_folder() as folder:
@@ -243,6 +246,7 @@ def command_line(t):
         t.same(ran("together", names[0], names[3], names[4]), (0, f"the blocks laid together are {names[4]}, byte for byte\n", ""))
         t.same(ran("picture", *names[:3], names[5]), (0, "", ""))
         t.same(ran("neighbours", *names[:2], "3", "2"), (0, "3 1 4 1\n2 0\n", ""))
+        t.same(ran("busy", *names[:3]), (0, "4 2 2\n", ""))
         t.same(ran("add", names[0], names[4], names[1], names[4]), (0, "none moved\n", ""))
         t.same(ran("join", names[4], names[4], names[4]), (0, "none moved\n", ""))
         t.same(ran("grow", names[1], names[1], names[4]), (1, "", "refused 3: an entry of the order is out of range or repeats\n"))
@@ -259,5 +263,5 @@ def commands_of_readme(t):
         for line in SHOWN:
             status, out, err = folder.run(*line.split())
             t.same((status, err), (0, ""), line)
-            if line.split()[0] in ("add", "join", "neighbours"):
+            if line.split()[0] in ("add", "join", "neighbours", "busy"):
                 t.true(out and "".join(f"    {its}\n" for its in out.splitlines()) in README, out)

@@ -180,13 +180,13 @@ def figures(after):
 def report(net, edges, limit, blocks):
     """Reports on a net with new tables; answers the number and the tables by name."""
     n = len(net[0])
-    of_n = ("carried", "top", "block", "reach", "block_count", "compared_parents", "compared_weights")
-    tables = {table: zeros(n) for table in of_n}
+    of_n = ("carried", "top", "block", "reach", "block_count", "edges_taken", "compared_parents", "compared_weights")
+    tables = {table: array("I", [7]) * n for table in of_n}
     tables |= {"block_loads": zeros(blocks), "edge_blocks": zeros(len(edges) // 2), "bound": array("Q", [7]), "volume": array("Q", [7])}
     return run("report", parents=net[0], weights=net[1], limit=limit, blocks=blocks, edges=edges, **tables), tables
 
 
-@test(at_least=8, given="report" in PRESENT)
+@test(at_least=9, given="report" in PRESENT)
 def reported_star(t):
     """A report on 1,000,000 vertices: each cut leaf reaches the top, which has edges of both blocks."""
     edges, net = a_star()
@@ -197,6 +197,7 @@ def reported_star(t):
     t.true(after["edge_blocks"] == after["block"][:last], "an edge belongs to the block of its lower end")
     t.true(after["reach"] == net[1], "reaches")
     t.true(after["block_count"] == array("I", [1]) * last + array("I", [2]), "block counts")
+    t.true(after["edges_taken"] == array("I", [1]) * last + array("I", [2]), "the first two leaves are of both blocks")
     t.true((after["compared_parents"], after["compared_weights"]) == net, "the net of the edges")
     edges[0], edges[-2] = last - 1, 0
     number, after = report(net, edges, limit, 2)
@@ -205,7 +206,7 @@ def reported_star(t):
     t.same(report(net, edges, limit, 2)[0], 23, "one edge is another")
 
 
-@test(at_least=10, given="report" in PRESENT)
+@test(at_least=11, given="report" in PRESENT)
 def longest_report(t):
     """A reported list of 16,000,000 edges is accepted; one more is 20, unless an edge of it is faulty."""
     half = calls.MAX_TIES // 2
@@ -216,11 +217,12 @@ def longest_report(t):
     t.same(figures(after), [1, 1], "bound and volume")
     t.true(after["edge_blocks"] == zeros(half) + array("I", [1]) * half, "edge blocks")
     t.same([list(after[name]) for name in ("reach", "block_count", "block_loads")], [[1, 1, 0], [1, 1, 2], [half, half]])
+    t.same(list(after["edges_taken"]), [half, half, half + 1], "the last vertex meets the second block in the middle of the list")
     t.true((after["compared_parents"], after["compared_weights"]) == net, "the net of the edges")
     edges += array("I", [1, 2])
     number, after = report(net, edges, half, 2)
     t.same((number, figures(after)), (20, [7, 7]))
-    t.same([list(after[name]) for name in ("block_count", "compared_parents")], [[0, 0, 0], [0, 0, 0]], "as they were")
+    t.same([list(after[name]) for name in ("block_count", "edges_taken", "compared_parents")], [[7, 7, 7]] * 3, "as they were")
     edges[-1] = 1
     t.same(report(net, edges, half, 2)[0], 5, "the last edge is a loop")
     edges[-1] = 3

@@ -69,7 +69,7 @@ def divide(parents, weights, numbers):
 def report(parents, weights, numbers, sizes):
     limit, k, edges = *numbers[:2], numbers[2:]
     n, loads, blocks, lower = sizes
-    tables = nines(n, n, n, loads, blocks, n, n, n, n)
+    tables = nines(n, n, n, loads, blocks, n, n, n, n, n)
     refusal = calls.report_refusal(parents, weights, limit, k, edges, tables)
     number, left = work(len(parents), len(parents) + len(edges) // 2, refusal, [n, n, lower], changed=(0, 23))
     if number != refusal:

@@ -1,5 +1,5 @@
-"""The oracle itself: document 01's nets on paper, its whole case, the laws that the documents state, and runs and moved forests worked
-by hand."""
+"""The oracle itself: document 01's nets on paper, its whole case, the laws that the documents state, and runs, moved forests and ties
+taken worked by hand."""
 
 import random
 
@@ -143,3 +143,25 @@ def moved_by_hand(t):
     t.same(calls.join(*net_of(3, []), *p5), (0, *p5, 0), "of the first net")
     t.same(calls.add(*p5, [0, 1, 0, 0]), (5, *p5, None), "refused")
     t.same(calls.join(*p5, *net_of(2, [])), (21, *p5, None), "refused")
+
+
+@test(at_least=9)
+def taken_by_hand(t):
+    """Document 02, Paper 3: the ties of a rank in list order, up to and with the first that completes the k, or all if none does."""
+    ties, blocks = [(0, 3), (3, 4), (1, 3), (3, 0), (2, 3), (4, 3)], [0, 1, 0, 2, 2]
+    tie_blocks = calls.tie_blocks_of(ties, blocks)
+    t.same(tie_blocks, [0, 2, 1, 0, 0, 2])
+    t.same(calls.ties_taken_of(5, ties, tie_blocks, 3), [2, 1, 1, 3, 2], "a tie that leads down completes the three")
+    t.same(calls.ties_taken_of(5, ties, tie_blocks, 4), [2, 1, 1, 6, 2], "none completes the four")
+    t.same(calls.ties_taken_of(5, ties, tie_blocks, 1), [1] * 5)
+    t.same(calls.ties_taken_of(5, ties[::-1], tie_blocks[::-1], 3), [2, 1, 1, 4, 2], "another order")
+    later = [ties[place] for place in (0, 2, 3, 4, 1, 5)]
+    t.same(calls.ties_taken_of(5, later, calls.tie_blocks_of(later, blocks), 3)[3], 5, "a tie that leads up completes the three")
+    t.same(calls.ties_taken_of(2, [], [], 1), [0, 0], "no ties")
+    _, flat = calls.translate(ORDER, TIES, TIES)
+    parents, loads = net_of(6, list(zip(flat[0::2], flat[1::2])))
+    for limit, k, taken in ((4, 2, [3, 2, 3, 1, 2, 1]), (3, 2, [3, 2, 2, 1, 2, 1]), (4, 1, [1] * 6)):
+        lent = [[9] * length for length in (6, 6, 6, k, 6, 6, 6, 6, 6, 6)]
+        t.same(calls.report(parents, loads, limit, k, flat, *lent)[8], taken, "the whole case", limit, k)
+        lent[7] = [9] * 5
+        t.same(calls.report(parents, loads, limit, k, flat, *lent), (2, *lent, None, None), "of another length")

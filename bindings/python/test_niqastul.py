@@ -97,12 +97,25 @@ class Calls(unittest.TestCase):
         its = net(6, edges)
         report = its.report(4, 2, edges)
         self.assertEqual(report.division, its.divide(4, 2))
-        self.assertEqual([list(part) for part in report[1:4]], [[0, 0, 1, 1, 0, 0], [2, 2, 2, 1, 1, 0], [1, 1, 1, 1, 2, 1]])
+        tables = [[0, 0, 1, 1, 0, 0], [2, 2, 2, 1, 1, 0], [1, 1, 1, 1, 2, 1], [3, 2, 3, 1, 2, 1]]
+        self.assertEqual([list(part) for part in report[1:5]], tables)
         self.assertEqual((report.bound, report.volume), (2, 1))
         self.assertEqual(its.report(4, 1, list(edges)).volume, 0)
         for number, arguments in ((2, (4, 2, edges[1:])), (8, (0, 2, edges)), (8, (4, 2 ** 32 + 2, edges)), (4, (4, 2, [0, 6])),
                                   (5, (4, 2, [0, 0])), (22, (2, 2, edges)), (23, (4, 2, edges[2:]))):
             self.refused(number, its.report, *arguments)
+
+    def test_edges_taken(self):
+        """Vertex 2 has edges of both blocks, and which of them come first is told by the list."""
+        edges = relabel([3, 0, 1, 2, 4, 5], [3, 1, 3, 4, 0, 2, 0, 4, 1, 5, 1, 3])
+        its = net(6, edges)
+        report = its.report(3, 2, edges)
+        self.assertEqual((list(report.block_count), list(report.edges_taken)), ([1, 1, 2, 1, 2, 1], [3, 2, 2, 1, 2, 1]))
+        moved = edges[:8] + edges[10:] + edges[8:10]
+        report = its.report(3, 2, moved)
+        self.assertEqual((list(report.block_count), list(report.edges_taken)), ([1, 1, 2, 1, 2, 1], [3, 2, 3, 1, 2, 1]))
+        self.assertEqual(list(its.report(3, 1, edges).edges_taken), [1] * 6)
+        self.assertEqual(list(Net(2).report(1, 1, []).edges_taken), [0, 0])
 
     def test_index(self):
         edges = relabel([3, 0, 1, 2, 4, 5], [3, 1, 3, 4, 0, 2, 0, 4, 1, 5, 1, 3])

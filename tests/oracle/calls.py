@@ -1,4 +1,4 @@
-"""Document 01, The calls and Refused; document 02, Paper 2. Each call takes its tables as lists and answers a tuple: the number (0 if
+"""Document 01, The calls and Refused; document 02, Papers 2 and 3. Each call takes its tables as lists and answers a tuple: the number (0 if
 accepted), then the tables that it was lent to write, as they are afterwards, then its other answers, None if refused. No list that is
 given is changed."""
 
@@ -284,6 +284,26 @@ def block_counts_of(n, ties, tie_blocks):
     return [len(blocks) for blocks in met]
 
 
+def ties_taken_of(n, ties, tie_blocks, k):
+    """Document 02, Paper 3: for each rank, how many of its ties, in list order, the count took, up to and with the first that completes
+    the k, or all if none does."""
+    blocks_of = [[] for _ in range(n)]
+    for (a, b), block in zip(ties, tie_blocks):
+        blocks_of[a].append(block)
+        blocks_of[b].append(block)
+    return [taken(blocks, k) for blocks in blocks_of]
+
+
+def taken(blocks, k):
+    """Of the blocks of a rank's ties."""
+    met = set()
+    for count, block in enumerate(blocks, 1):
+        met.add(block)
+        if len(met) == k:
+            return count
+    return len(blocks)
+
+
 def bound_of(parents, ties, tops):
     """The sum of the reaches of cut marks: those that are their group's top and have a parent."""
     reach = reaches(parents, ties)
@@ -297,10 +317,10 @@ def volume_of(block_counts):
 
 def report_refusal(parents, loads, limit, k, flat, tables):
     n = len(parents)
-    carried, tops, blocks, block_loads, tie_blocks, reach, block_counts, parents2, loads2 = tables
+    carried, tops, blocks, block_loads, tie_blocks, reach, block_counts, ties_taken, parents2, loads2 = tables
     if bad_count(n):
         return 1
-    of_n = (loads, carried, tops, blocks, reach, block_counts, parents2, loads2)
+    of_n = (loads, carried, tops, blocks, reach, block_counts, ties_taken, parents2, loads2)
     if any(len(table) != n for table in of_n) or len(block_loads) != k:
         return 2
     if len(flat) % 2 or len(tie_blocks) != len(flat) // 2:
@@ -322,16 +342,16 @@ def report_refusal(parents, loads, limit, k, flat, tables):
 
 
 def report(parents, loads, limit, k, flat, *tables):
-    """The tables: carried load, top, block, block loads, tie blocks, reach, block count, and the two comparison tables. Behind them
-    bound and volume are answered."""
+    """The tables: carried load, top, block, block loads, tie blocks, reach, block count, ties taken, and the two comparison tables.
+    Behind them bound and volume are answered."""
     number = report_refusal(parents, loads, limit, k, flat, tables)
     n, ties = len(parents), ties_of(flat)
     if number == 23:
-        return (23, *tables[:7], parents_of(n, ties), loads_of(n, ties), None, None)
+        return (23, *tables[:8], parents_of(n, ties), loads_of(n, ties), None, None)
     if number:
         return (number, *tables, None, None)
     carried, tops, blocks, block_loads = division(parents, loads, limit, k)
     tie_blocks = tie_blocks_of(ties, blocks)
     block_counts = block_counts_of(n, ties, tie_blocks)
-    return (0, carried, tops, blocks, block_loads, tie_blocks, reaches(parents, ties), block_counts,
+    return (0, carried, tops, blocks, block_loads, tie_blocks, reaches(parents, ties), block_counts, ties_taken_of(n, ties, tie_blocks, k),
             parents_of(n, ties), loads_of(n, ties), bound_of(parents, ties, tops), volume_of(block_counts))

@@ -128,7 +128,7 @@ class Model:
         flat, n = self.latest[net], len(self.nets[net][0])
         m = len(flat) // 2
         limit, blocks = 1 + self.draw(20), 1 + self.draw(BLOCKS)
-        lent = [self.lent(length) for length in (n, n, n, blocks, m, n, n, n, n)]
+        lent = [self.lent(length) for length in (n, n, n, blocks, m, n, n, n, n, n)]
         lengths = [n, n, n + m]
         work = [self.lent(length) for length in lengths]
         number, *after, bound, volume = calls.report(*self.nets[net], limit, blocks, flat, *lent)

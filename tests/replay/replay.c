@@ -178,15 +178,16 @@ static void report(int net)
     size_t n = p->length, m = list->length / 2;
     uint32_t limit = 1 + draw(20), blocks = 1 + draw(BLOCKS);
     Table carried = lent(n), top = lent(n), block = lent(n), loads = lent(blocks), edge_blocks = lent(m), reach = lent(n), count = lent(n);
-    Table its_parents = lent(n), its_weights = lent(n), ends = lent(n), jump = lent(n), lower = lent(n + m);
+    Table taken = lent(n), its_parents = lent(n), its_weights = lent(n), ends = lent(n), jump = lent(n), lower = lent(n + m);
     uint64_t bound = 7, volume = 7;
     printf("report %d %u", net, niqastul_report(p->entry, n, w->entry, w->length, limit, blocks, list->entry, list->length,
         carried.entry, carried.length, top.entry, top.length, block.entry, block.length, loads.entry, loads.length,
         edge_blocks.entry, edge_blocks.length, reach.entry, reach.length, count.entry, count.length,
+        taken.entry, taken.length,
         its_parents.entry, its_parents.length, its_weights.entry, its_weights.length,
         ends.entry, ends.length, jump.entry, jump.length, lower.entry, lower.length, &bound, &volume));
     print(&carried), print(&top), print(&block), print(&loads), print(&edge_blocks), print(&reach), print(&count);
-    print(&its_parents), print(&its_weights), print(&ends), print(&jump), print(&lower);
+    print(&taken), print(&its_parents), print(&its_weights), print(&ends), print(&jump), print(&lower);
     printf(" %" PRIu64 " %" PRIu64, bound, volume);
 }
 

@@ -34,9 +34,10 @@ MAX_EDGES = 16_000_000
 # each block. A vertex that is its own top and has a parent is cut off from it.
 Division = collections.namedtuple("Division", "carried top block block_loads")
 
-# What a division costs: the block of each edge; for each vertex its reach and the number of different blocks among its edges; the sum
-# of the reaches of the vertices that are cut off, and the sum of (block count - 1), which is never above it.
-Report = collections.namedtuple("Report", "division edge_blocks reach block_count bound volume")
+# What a division costs: the block of each edge; for each vertex its reach, the number of different blocks among its edges, and how many
+# edges, in the order of the list, that count took, up to and with the first by which all blocks are met, or all; the sum of the reaches
+# of the vertices that are cut off, and the sum of (block count - 1), which is never above it.
+Report = collections.namedtuple("Report", "division edge_blocks reach block_count edges_taken bound volume")
 
 
 class Net:
@@ -85,10 +86,10 @@ class Net:
         n, limit, blocks, edges = len(self.parents), within(limit, MAX_LIMIT), within(blocks, MAX_BLOCKS), table(edges)
         m = len(edges) // 2
         its = Division(zeros(n), zeros(n), zeros(n), zeros(blocks))
-        edge_blocks, reach, block_count, bound, volume = zeros(m), zeros(n), zeros(n), ctypes.c_uint64(), ctypes.c_uint64()
-        work = [zeros(length) for length in (n, n, n, n, n + m)]
-        call("report", self.parents, self.weights, limit, blocks, edges, *its, edge_blocks, reach, block_count, *work, bound, volume)
-        return Report(its, edge_blocks, reach, block_count, bound.value, volume.value)
+        tables, work = [zeros(length) for length in (m, n, n, n)], [zeros(length) for length in (n, n, n, n, n + m)]
+        bound, volume = ctypes.c_uint64(), ctypes.c_uint64()
+        call("report", self.parents, self.weights, limit, blocks, edges, *its, *tables, *work, bound, volume)
+        return Report(its, *tables, bound.value, volume.value)
 
 
 def relabel(order, edges):

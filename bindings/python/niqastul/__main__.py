@@ -3,10 +3,10 @@
 import argparse
 import sys
 
-from . import Refused, files, links, neighbours, picture, split, together
+from . import Refused, busy, files, links, neighbours, picture, split, together
 from .progress import Progress
 
-ABOUT = "Nets as files: grown, added to, joined, split into blocks, laid together again, drawn, and asked for neighbours."
+ABOUT = "Nets as files: grown, added to, joined, split into blocks, laid together again, drawn, and asked for neighbours and busy marks."
 
 FORMATS = """files, little-endian 32-bit numbers without a header:
   marks.ord   the order: mark numbers, the first to be eliminated first
@@ -50,6 +50,10 @@ Of a net above some thousand marks a part is drawn, and the picture says so."""
 NEIGHBOURS = """print the neighbours of marks
 A line for each MARK, a mark number: the mark, then the other mark of each of its ties, in the order of ties.rec, repeats included."""
 
+BUSY = """print the marks that meet every block
+A line for each mark with ties in all blocks, by rising rank: the mark, how many ties it has, and how many of them, in the order of
+ties.rec, it takes to meet all blocks."""
+
 # `[name]` may be left out; of `name..` there are one or more, and they are vertices
 COMMANDS = (
     (links.grow, "marks.ord ties.rec net.link", GROW),
@@ -59,6 +63,7 @@ COMMANDS = (
     (together.together, "marks.ord DIR net.link", TOGETHER),
     (picture.picture, "marks.ord ties.rec want.rec [places.txt] out.svg", PICTURE),
     (neighbours.neighbours, "marks.ord ties.rec MARK..", NEIGHBOURS),
+    (busy.busy, "marks.ord ties.rec want.rec", BUSY),
 )
 
 

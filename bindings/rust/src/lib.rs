@@ -177,7 +177,8 @@ impl Net {
         let vertices = self.parents.len();
         let zeros = || vec![0; vertices];
         let mut its = Division::sized(vertices, blocks);
-        let (mut edge_blocks, mut reach, mut block_count) = (vec![0; edges.len() / 2], zeros(), zeros());
+        let (mut edge_blocks, mut reach) = (vec![0; edges.len() / 2], zeros());
+        let (mut block_count, mut edges_taken) = (zeros(), zeros());
         self.work.resize(vertices, edges.len() / 2);
         let (bound, volume) = tables::report(
             &self.parents,
@@ -192,11 +193,12 @@ impl Net {
             &mut edge_blocks,
             &mut reach,
             &mut block_count,
+            &mut edges_taken,
             &mut zeros(),
             &mut zeros(),
             &mut self.work,
         )?;
-        Ok(Report { division: its, edge_blocks, reach, block_count, bound, volume })
+        Ok(Report { division: its, edge_blocks, reach, block_count, edges_taken, bound, volume })
     }
 }
 
@@ -223,6 +225,8 @@ pub struct Report {
     pub reach: Vec<u32>,
     /// The number of different blocks among the edges of a vertex.
     pub block_count: Vec<u32>,
+    /// How many of its edges, in the order of the list, that count took: up to and with the first by which all blocks are met, or all.
+    pub edges_taken: Vec<u32>,
     /// The sum of the reaches of the vertices that are cut off.
     pub bound: u64,
     /// The sum of (block count - 1) over the vertices with an edge; never above the bound.

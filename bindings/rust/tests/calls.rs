@@ -133,6 +133,7 @@ fn reported() {
     assert_eq!(report.edge_blocks, [0, 0, 1, 1, 0, 0]);
     assert_eq!(report.reach, [2, 2, 2, 1, 1, 0]);
     assert_eq!(report.block_count, [1, 1, 1, 1, 2, 1]);
+    assert_eq!(report.edges_taken, [3, 2, 3, 1, 2, 1]);
     assert_eq!((report.bound, report.volume), (2, 1));
     let report = net.report(4, 1, &edges).unwrap();
     assert_eq!((report.bound, report.volume), (2, 0));
@@ -145,16 +146,33 @@ fn reported() {
 }
 
 #[test]
+fn edges_taken() {
+    // vertex 2 has edges of both blocks, and which of them come first is told by the list
+    let edges = [0, 2, 0, 4, 1, 3, 1, 4, 2, 5, 2, 0];
+    let moved = [0, 2, 0, 4, 1, 3, 1, 4, 2, 0, 5, 2];
+    let mut net = net(6, &edges);
+    let (one, other) = (net.report(3, 2, &edges).unwrap(), net.report(3, 2, &moved).unwrap());
+    assert_eq!(one.edge_blocks, [0, 0, 1, 1, 1, 0]);
+    assert_eq!(one.block_count, [1, 1, 2, 1, 2, 1]);
+    assert_eq!(one.edges_taken, [3, 2, 2, 1, 2, 1]);
+    assert_eq!(other.edges_taken, [3, 2, 3, 1, 2, 1]);
+    assert_eq!((other.block_count, other.bound, other.volume), (one.block_count, one.bound, one.volume));
+    assert_eq!(net.report(3, 1, &edges).unwrap().edges_taken, [1; 6]);
+    assert_eq!(net.report(3, 1000, &edges).unwrap().edges_taken, [3, 2, 3, 1, 2, 1]);
+    assert_eq!(Net::new(2).unwrap().report(1, 1, &[]).unwrap().edges_taken, [0, 0]);
+}
+
+#[test]
 fn compared() {
     let work = &mut tables::Work::default();
     work.resize(2, 1);
     let (mut carried, mut top, mut block, mut loads) = ([7; 2], [7; 2], [7; 2], [7]);
-    let (mut edge_blocks, mut reach, mut count) = ([7], [7; 2], [7; 2]);
+    let (mut edge_blocks, mut reach, mut count, mut taken) = ([7], [7; 2], [7; 2], [7; 3]);
     let (mut parents, mut weights) = ([7; 2], [7; 2]);
-    let mut report = |net: [u32; 2]| {
+    let mut report = |net: [u32; 2], weight, length: usize| {
         let answer = tables::report(
             &net,
-            &[0, 0],
+            &[weight, 0],
             1,
             1,
             &[0, 1],
@@ -165,14 +183,19 @@ fn compared() {
             &mut edge_blocks,
             &mut reach,
             &mut count,
+            &mut taken[..length],
             &mut parents,
             &mut weights,
             work,
         );
-        (answer, parents, weights, carried)
+        (answer, parents, weights, carried, taken)
     };
-    assert_eq!(report([0, ABSENT]), (Err(Refusal::Damaged), [7, 7], [7, 7], [7, 7]));
-    assert_eq!(report([1, ABSENT]), (Err(Refusal::OtherEdges), [1, ABSENT], [1, 0], [7, 7]));
+    let untouched = |refusal| (Err(refusal), [7; 2], [7; 2], [7; 2], [7; 3]);
+    assert_eq!(report([0, ABSENT], 0, 1), untouched(Refusal::WrongLength));
+    assert_eq!(report([0, ABSENT], 0, 3), untouched(Refusal::WrongLength));
+    assert_eq!(report([0, ABSENT], 0, 2), untouched(Refusal::Damaged));
+    assert_eq!(report([1, ABSENT], 0, 2), (Err(Refusal::OtherEdges), [1, ABSENT], [1, 0], [7; 2], [7; 3]));
+    assert_eq!(report([1, ABSENT], 1, 2), (Ok((0, 0)), [1, ABSENT], [1, 0], [1, 1], [1, 1, 7]));
 }
 
 #[test]

@@ -5,8 +5,5 @@ pub mod Divided
 pub mod VolumeBound
 pub mod Dealt
 pub mod Laid
-pub mod Stamps
-pub mod Buckets
 pub mod Filling
-pub mod Counted
 pub mod Summed

@@ -1,9 +1,10 @@
-// What a division costs: the block of each edge, the number of blocks that each vertex meets, and the bound and the volume of
-// communication between the blocks.
-mod counting;
-
-pub use counting::write_block_counts;
-pub use counting::write_edge_blocks;
+// What a division costs: the block of each edge, and the bound and the volume of communication between the blocks.
+use table::wide;
+ghost use mathlib.Core.Path.{_≡_};
+ghost use lib.ListN.{length};
+ghost use Rattle.game.specs.Edge.{edges as edgesOf};
+ghost use Rattle.refusal.specs.Refusal.{firstFault};
+ghost use Rattle.cost.specs.Figures.{edgeBlocks};
 pub use summing::bound;
 pub use summing::volume;
 
@@ -11,4 +12,19 @@ pub use summing::volume;
 pub struct Totals {
     pub bound: u64,
     pub volume: u64,
+}
+
+// Writes the block of each edge: that of its lower end.
+pub fn write_edge_blocks(edges: &[u32], block: &[u32], edge_blocks: &mut [u32])
+    requires { ⌜ firstFault (length (now block)) (edgesOf (now edges)) ≡ 0 ⌝ }
+    requires { ⌜ length (now «edge_blocks») ≡ length (edgesOf (now edges)) ⌝ }
+    ensures { λ _. ⌜ now («edge_blocks» .exit) ≡ edgeBlocks (now (block .entry)) (edgesOf (now (edges .entry))) ⌝ }
+{
+    let mut i = 0;
+    let mut at = 0;
+    while i < edge_blocks.len() {
+        edge_blocks[i] = block[wide(bucket::end_of(false, edges[at], edges[at + 1]))];
+        i += 1;
+        at += 2;
+    }
 }

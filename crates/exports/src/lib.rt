@@ -167,6 +167,7 @@ pub extern "C" fn niqastul_report(
     edge_blocks: &mut [u32],
     reach: &mut [u32],
     block_count: &mut [u32],
+    edges_taken: &mut [u32],
     compared_parents: &mut [u32],
     compared_weights: &mut [u32],
     ends: &mut [u32],
@@ -177,12 +178,12 @@ pub extern "C" fn niqastul_report(
 ) -> u32
     ensures { λ r. ⌜
         filled r (totals (now (bound .exit)) (now (volume .exit)))
-        (lent (written (divisionOf (now (carried .exit)) (now (top .exit)) (now (block .exit)) (now («block_loads» .exit))) (now («edge_blocks» .exit)) (now (reach .exit)) (now («block_count» .exit)))
+        (lent (written (divisionOf (now (carried .exit)) (now (top .exit)) (now (block .exit)) (now («block_loads» .exit))) (now («edge_blocks» .exit)) (now (reach .exit)) (now («block_count» .exit)) (now («edges_taken» .exit)))
         (net (now («compared_parents» .exit)) (now («compared_weights» .exit)))
         (workOf (now (ends .exit)) (now (jump .exit)) (now (lower .exit))))
         ≡ handedTotals (totals (now (bound .entry)) (now (volume .entry)))
         (reportOutcome (net (now (parents .entry)) (now (weights .entry))) limit blocks (now (edges .entry))
-        (lent (written (divisionOf (now (carried .entry)) (now (top .entry)) (now (block .entry)) (now («block_loads» .entry))) (now («edge_blocks» .entry)) (now (reach .entry)) (now («block_count» .entry)))
+        (lent (written (divisionOf (now (carried .entry)) (now (top .entry)) (now (block .entry)) (now («block_loads» .entry))) (now («edge_blocks» .entry)) (now (reach .entry)) (now («block_count» .entry)) (now («edges_taken» .entry)))
         (net (now («compared_parents» .entry)) (now («compared_weights» .entry)))
         (workOf (now (ends .entry)) (now (jump .entry)) (now (lower .entry))))) ⌝ }
 {
@@ -199,6 +200,7 @@ pub extern "C" fn niqastul_report(
         edge_blocks,
         reach,
         block_count,
+        edges_taken,
         compared_parents,
         compared_weights,
         ends,

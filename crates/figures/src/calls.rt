@@ -73,6 +73,7 @@ fn report_on(
     let mut edge_blocks = [9u32; MOST];
     let mut reach = [9u32; MOST];
     let mut block_count = [9u32; MOST];
+    let mut edges_taken = [9u32; MOST];
     let mut compared_parents = [9u32; MOST];
     let mut compared_weights = [9u32; MOST];
     let mut ends = [9u32; MOST];
@@ -91,6 +92,7 @@ fn report_on(
         front(&mut edge_blocks, e),
         front(&mut reach, c),
         front(&mut block_count, c),
+        front(&mut edges_taken, c),
         front(&mut compared_parents, c),
         front(&mut compared_weights, c),
         front(&mut ends, c),
@@ -99,7 +101,7 @@ fn report_on(
     );
     report_answer(a);
     script::division(&carried, &top, &block, c, &block_loads, k);
-    script::figures(&edge_blocks, e, &reach, &block_count, c);
+    script::figures(&edge_blocks, e, &reach, &block_count, &edges_taken, c);
     script::net(&compared_parents, c, &compared_weights, c);
     script::work(&ends, c, &jump, c, &lower, l);
 }

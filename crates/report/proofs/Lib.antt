@@ -3,3 +3,4 @@ pub mod Own
 pub mod Refused
 pub mod Outcome
 pub mod Together
+pub mod Taken

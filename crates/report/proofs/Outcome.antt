@@ -108,7 +108,8 @@ module _ (of : Net) (B k : ℕ) (xs : List ℕ) (was : Lent) where
           }
 
       -- what writing asks
-      pub write-ready : Reportable (of .parents) (of .weights) B (edges xs) (work .ends) (work .lower) (was .written)
+      pub write-ready : Reportable (of .parents) (of .weights) B (edges xs) (work .ends) (work .lower) (was .written .division) (was .written .edgeBlocks)
+          (was .written .reach) (was .written .blockCount)
       write-ready =
           let r = ready of B k xs was z in
           let d = divide-known (of .parents) (of .weights) B k (was .written .division) (r .divides) in

@@ -25,9 +25,9 @@ use Rattle.writing.specs.Written.{written}
 use Rattle.report.specs.Report.{Lent, lent, wrongFigures, wrongLent, earlyRefusal}
 
 -- the tables that are lent, one by one
-module _ (p w xs c t b l eb re bc cp cw e j lo : List ℕ) where
+module _ (p w xs c t b l eb re bc ta cp cw e j lo : List ℕ) where
   abbrev was : Lent
-  was = lent (written (divisionOf c t b l) eb re bc) (net cp cw) (workOf e j lo)
+  was = lent (written (divisionOf c t b l) eb re bc ta) (net cp cw) (workOf e j lo)
 
   n : ℕ
   n = length p
@@ -35,7 +35,7 @@ module _ (p w xs c t b l eb re bc cp cw e j lo : List ℕ) where
   -- 2, by the lengths that the code compares
   pub wrong-lengths : (k : ℕ) {blocks : ℕ} {d f o : Bool} → blocks ≡ k
       → d ≡ (wrongLength (length w) (length p) || wrongLength (length c) (length p) || wrongLength (length t) (length p) || wrongLength (length b) (length p) || wrongLength (length l) blocks)
-      → f ≡ (wrongLength (length eb) (length xs / 2) || wrongLength (length re) (length p) || wrongLength (length bc) (length p))
+      → f ≡ (wrongLength (length eb) (length xs / 2) || wrongLength (length re) (length p) || wrongLength (length bc) (length p) || wrongLength (length ta) (length p))
       → o ≡ (wrongLength (length cp) (length p) || wrongLength (length cw) (length p) || (wrongLength (length e) (length p) || wrongLength (length j) (length p) || wrongLength (length lo) (length p + length xs / 2)))
       → (d || f || o || not (eqb (length xs % 2) 0)) ≡ wrongLent (net p w) k xs was
   unfolding wrongLent wrongTables wrongFigures wrongCompared badWork odd
@@ -48,6 +48,7 @@ pub record Lengths (of : Net) (k : ℕ) (xs : List ℕ) (was : Lent) : Type 0 wh
   pub edge-blocks : length (was .written .edgeBlocks) ≡ length (edges xs)
   pub reaches : length (was .written .reach) ≡ length (of .parents)
   pub counts : length (was .written .blockCount) ≡ length (of .parents)
+  pub taken : length (was .written .edgesTaken) ≡ length (of .parents)
   pub compared-parents : length (was .compared .parents) ≡ length (of .parents)
   pub compared-weights : length (was .compared .weights) ≡ length (of .parents)
   pub ends : length (was .work .ends) ≡ length (of .parents)
@@ -60,7 +61,8 @@ lengths-right of k xs was e =
     let a = or-neither _ _ e in
     let b = or-neither _ _ (a .0) in
     let c = or-neither _ _ (b .0) in
-    let f2 = or-neither _ _ (c .1) in
+    let f3 = or-neither _ _ (c .1) in
+    let f2 = or-neither _ _ (f3 .0) in
     let f1 = or-neither _ _ (f2 .0) in
     let o2 = or-neither _ _ (b .1) in
     let o1 = or-neither _ _ (o2 .0) in
@@ -71,6 +73,7 @@ lengths-right of k xs was e =
       edge-blocks = length-right _ _ (f1 .0);
       reaches = length-right _ _ (f1 .1);
       counts = length-right _ _ (f2 .1);
+      taken = length-right _ _ (f3 .1);
       compared-parents = length-right _ _ (o1 .0);
       compared-weights = length-right _ _ (o1 .1);
       ends = g .0;

@@ -25,7 +25,7 @@ use Rattle.compare.proofs.Sameness.{same-net}
 use Rattle.report.proofs.Refused.{ready}
 
 module _ (of : Net) (B k : ℕ) (xs : List ℕ) (was : Lent) {totals : Totals} (answer : reportOutcome of B k xs was .verdict ≡ accepted totals) where
-  passed : (earlyRefusal of B k xs (wrongLent of k xs was) ≡ 0) × (unlike of (edges xs) ≡ 0)
+  pub passed : (earlyRefusal of B k xs (wrongLent of k xs was) ≡ 0) × (unlike of (edges xs) ≡ 0)
   unfolding reportOutcome reportRefusal
   passed =
       let early = first-none _ _ (accepted-none (reportRefusal of B k xs was) _ answer) in
@@ -37,7 +37,7 @@ module _ (of : Net) (B k : ℕ) (xs : List ℕ) (was : Lent) {totals : Totals} (
   own = same-net of _ (not-false (sameNet of _) (given-none (not (sameNet of _)) 22 (passed .1)))
 
   -- what is written of the division is the division
-  written : reportOutcome of B k xs was .tables .written .division ≡ divided of B k
+  pub written : reportOutcome of B k xs was .tables .written .division ≡ divided of B k
   unfolding reportOutcome figures
   written =
       ap (λ (t : Lent). t .written .division) (unless-accepted _ was _ (passed .0))

@@ -1,5 +1,6 @@
 -- Document 01, "Whole case": what Report ends with, computed from the definitions as one table; with it "With B = 3 rank 0 is the only
--- cut; with B = 2 the answer is 22. With k = 1 volume is 0", and a list that is not the net's own, which is 23.
+-- cut; with B = 2 the answer is 22. With k = 1 volume is 0", and a list that is not the net's own, which is 23. The last table of each is
+-- document 02's Paper 3: how many of its edges the count of each vertex took.
 -- Assumes nothing.
 use mathlib.Core.Path.{_≡_, refl}
 use mathlib.Core.List.{List, [], _∷_}
@@ -15,6 +16,7 @@ use Rattle.net.specs.Damage.{damagedBy, damaged}
 use Rattle.growth.specs.Work.{workOf, badWork, zeros, cleared}
 use Rattle.partition.specs.Divide.{divisionOf, badLimits, tooHeavy, divided, wrongTables}
 use Rattle.cost.specs.Figures.{edgeBlock, edgeBlocks, touches, blocksAt, different, blockCount, isCut, bound, volume, boundOf, volumeOf, totals, totalsOf}
+use Rattle.meeting.specs.Taken.{allMet, takenAfter, edgesTaken}
 use Rattle.compare.specs.Compare.{wrongCompared, listRefusal, sameTable, sameNet, unlike}
 use Rattle.refusal.specs.Verdict.{accepted, refused, judged}
 use Rattle.refusal.specs.Outcome.{Outcome, ended}
@@ -38,7 +40,7 @@ sevens : ℕ → List ℕ
 sevens n = replicate n 7
 
 given-tables : ℕ → Written
-given-tables k = written (divisionOf (sevens 6) (sevens 6) (sevens 6) (sevens k)) (sevens 6) (sevens 6) (sevens 6)
+given-tables k = written (divisionOf (sevens 6) (sevens 6) (sevens 6) (sevens k)) (sevens 6) (sevens 6) (sevens 6) (sevens 6)
 
 given-all : ℕ → Lent
 given-all k = lent (given-tables k) (net (sevens 6) (sevens 6)) (workOf (sevens 6) (sevens 6) (sevens 12))
@@ -67,19 +69,19 @@ printed =
     (cleared-with
     (written
     (divisionOf (3 ∷ 2 ∷ 4 ∷ 2 ∷ 2 ∷ 2 ∷ []) (2 ∷ 5 ∷ 2 ∷ 5 ∷ 5 ∷ 5 ∷ []) (0 ∷ 1 ∷ 0 ∷ 1 ∷ 1 ∷ 1 ∷ []) (4 ∷ 2 ∷ []))
-    (0 ∷ 0 ∷ 1 ∷ 1 ∷ 0 ∷ 0 ∷ []) reaches (1 ∷ 1 ∷ 1 ∷ 1 ∷ 2 ∷ 1 ∷ []))
+    (0 ∷ 0 ∷ 1 ∷ 1 ∷ 0 ∷ 0 ∷ []) reaches (1 ∷ 1 ∷ 1 ∷ 1 ∷ 2 ∷ 1 ∷ []) (3 ∷ 2 ∷ 3 ∷ 1 ∷ 2 ∷ 1 ∷ []))
     whole)
     ∷ ended (accepted (totals 2 2))
     (cleared-with
     (written
     (divisionOf (3 ∷ 2 ∷ 1 ∷ 2 ∷ 3 ∷ 3 ∷ []) (0 ∷ 5 ∷ 5 ∷ 5 ∷ 5 ∷ 5 ∷ []) (0 ∷ 1 ∷ 1 ∷ 1 ∷ 1 ∷ 1 ∷ []) (3 ∷ 3 ∷ []))
-    (0 ∷ 0 ∷ 1 ∷ 1 ∷ 1 ∷ 0 ∷ []) reaches (1 ∷ 1 ∷ 2 ∷ 1 ∷ 2 ∷ 1 ∷ []))
+    (0 ∷ 0 ∷ 1 ∷ 1 ∷ 1 ∷ 0 ∷ []) reaches (1 ∷ 1 ∷ 2 ∷ 1 ∷ 2 ∷ 1 ∷ []) (3 ∷ 2 ∷ 2 ∷ 1 ∷ 2 ∷ 1 ∷ []))
     whole)
     ∷ ended (accepted (totals 2 0))
     (cleared-with
     (written
     (divisionOf (3 ∷ 2 ∷ 4 ∷ 2 ∷ 2 ∷ 2 ∷ []) (2 ∷ 5 ∷ 2 ∷ 5 ∷ 5 ∷ 5 ∷ []) (replicate 6 0) (6 ∷ []))
-    (replicate 6 0) reaches (replicate 6 1))
+    (replicate 6 0) reaches (replicate 6 1) (replicate 6 1))
     whole)
     ∷ ended (refused 22) (given-all 2)
     ∷ ended (refused 23) (cleared-with (given-tables 2) (net (2 ∷ 2 ∷ 3 ∷ 4 ∷ 5 ∷ absent ∷ []) (2 ∷ 3 ∷ 1 ∷ 0 ∷ 0 ∷ 0 ∷ [])))
@@ -87,5 +89,5 @@ printed =
     ∷ []
 
 pub paper : computed ≡ printed
-unfolding computed printed whole own other sevens given-tables given-all cleared-with reaches reportOutcome reportRefusal earlyRefusal unlike wrongCompared listRefusal wrongLent wrongFigures figures first given unless badCount wrongLength odd fault firstFault damaged damagedBy sound badWork cleared zeros badLimits tooHeavy wrongTables divided judged sameNet sameTable netOf reach edgeBlocks edgeBlock lower blockCount different blocksAt filtered touches bound boundOf isCut volume volumeOf totalsOf tabulate sum count member edges
+unfolding computed printed whole own other sevens given-tables given-all cleared-with reaches reportOutcome reportRefusal earlyRefusal unlike wrongCompared listRefusal wrongLent wrongFigures figures first given unless badCount wrongLength odd fault firstFault damaged damagedBy sound badWork cleared zeros badLimits tooHeavy wrongTables divided judged sameNet sameTable netOf reach edgeBlocks edgeBlock lower blockCount different blocksAt edgesTaken takenAfter allMet filtered touches bound boundOf isCut volume volumeOf totalsOf tabulate sum count member edges
 paper = refl

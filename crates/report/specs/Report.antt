@@ -4,6 +4,7 @@
 -- count .., and answers bound .. and volume .. Two comparison tables, lent for it, end holding the parents and loads of the ties
 -- given." Refusals, in order: 1, 2, 8, 30, 4 or 5, 20, 22, 23. "The answer is the number alone and every table stays as it was, but
 -- after 23, or a refusal ordered after it, the comparison tables hold what the ties gave."
+-- Document 02, Paper 3: "Report writes one more table of n: for each rank, how many of its ties, in list order, the count took".
 -- 30 and 22 look at the net, never at the comparison tables; 20 counts the edges of the list alone.
 -- The work tables end as zeros where the comparison was made, at 23 as at acceptance, and stay as they were at every other refusal.
 -- Assumes nothing.
@@ -35,7 +36,8 @@ lent w c o = record { written = w; compared = c; work = o }
 
 -- 2, of the tables that Divide does not know: n entries for the vertices, m for the edges
 unfoldable pub wrongFigures : ℕ → ℕ → Written → Bool
-wrongFigures n m was = wrongLength (length (was .edgeBlocks)) m || wrongLength (length (was .reach)) n || wrongLength (length (was .blockCount)) n
+wrongFigures n m was =
+    wrongLength (length (was .edgeBlocks)) m || wrongLength (length (was .reach)) n || wrongLength (length (was .blockCount)) n || wrongLength (length (was .edgesTaken)) n
 
 -- 2: "a table of the wrong length for the call, or a tie list of odd length"
 unfoldable pub wrongLent : Net → ℕ → List ℕ → Lent → Bool

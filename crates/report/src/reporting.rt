@@ -16,10 +16,17 @@ ghost use Rattle.report.specs.Report.{earlyRefusal, lent, reportOutcome}
 ghost use Rattle.report.specs.Answer.{verdict};
 
 // Whether one of the tables that a division does not know has another length than it needs: n entries for the vertices, m for the edges.
-fn wrong_figures(n: usize, m: usize, edge_blocks: usize, reach: usize, block_count: usize) -> bool
-    ensures { λ r. ⌜ r ≡ (wrongLength «edge_blocks» m || wrongLength reach n || wrongLength «block_count» n) ⌝ }
+fn wrong_figures(
+    n: usize,
+    m: usize,
+    edge_blocks: usize,
+    reach: usize,
+    block_count: usize,
+    edges_taken: usize,
+) -> bool
+    ensures { λ r. ⌜ r ≡ (wrongLength «edge_blocks» m || wrongLength reach n || wrongLength «block_count» n || wrongLength «edges_taken» n) ⌝ }
 {
-    (edge_blocks != m) | (reach != n) | (block_count != n)
+    (edge_blocks != m) | (reach != n) | (block_count != n) | (edges_taken != n)
 }
 
 // The number for which Report is refused before anything is compared, or 0. Whether a length is wrong was found out before.
@@ -58,7 +65,7 @@ fn early_refusal(
 }
 
 // Divides a net and reports what the division costs, given the net's own edges. Beside Divide's tables it writes the block of each
-// edge, the reach and the block count of each vertex, and answers the bound and the volume. The comparison tables end holding the net
+// edge, and of each vertex the reach, the block count and how many of its edges that took, and answers the bound and the volume. The comparison tables end holding the net
 // of the edges. The work tables take n, n and n + m entries for n vertices and m edges, and end as zeros. A refused call leaves every
 // table as it was, but for these five after 23.
 pub fn report(
@@ -74,6 +81,7 @@ pub fn report(
     edge_blocks: &mut [u32],
     reach: &mut [u32],
     block_count: &mut [u32],
+    edges_taken: &mut [u32],
     compared_parents: &mut [u32],
     compared_weights: &mut [u32],
     ends: &mut [u32],
@@ -82,11 +90,11 @@ pub fn report(
 ) -> ReportAnswer
     ensures { λ r. ⌜
         ended (verdict r)
-        (lent (written (divisionOf (now (carried .exit)) (now (top .exit)) (now (block .exit)) (now («block_loads» .exit))) (now («edge_blocks» .exit)) (now (reach .exit)) (now («block_count» .exit)))
+        (lent (written (divisionOf (now (carried .exit)) (now (top .exit)) (now (block .exit)) (now («block_loads» .exit))) (now («edge_blocks» .exit)) (now (reach .exit)) (now («block_count» .exit)) (now («edges_taken» .exit)))
         (net (now («compared_parents» .exit)) (now («compared_weights» .exit)))
         (workOf (now (ends .exit)) (now (jump .exit)) (now (lower .exit))))
         ≡ reportOutcome (net (now (parents .entry)) (now (weights .entry))) limit blocks (now (edges .entry))
-        (lent (written (divisionOf (now (carried .entry)) (now (top .entry)) (now (block .entry)) (now («block_loads» .entry))) (now («edge_blocks» .entry)) (now (reach .entry)) (now («block_count» .entry)))
+        (lent (written (divisionOf (now (carried .entry)) (now (top .entry)) (now (block .entry)) (now («block_loads» .entry))) (now («edge_blocks» .entry)) (now (reach .entry)) (now («block_count» .entry)) (now («edges_taken» .entry)))
         (net (now («compared_parents» .entry)) (now («compared_weights» .entry)))
         (workOf (now (ends .entry)) (now (jump .entry)) (now (lower .entry)))) ⌝ }
 {
@@ -101,7 +109,14 @@ pub fn report(
         block.len(),
         block_loads.len(),
     )
-        | wrong_figures(n, m, edge_blocks.len(), reach.len(), block_count.len())
+        | wrong_figures(
+            n,
+            m,
+            edge_blocks.len(),
+            reach.len(),
+            block_count.len(),
+            edges_taken.len(),
+        )
         | compare::wrong_compared(
             n,
             n + m,
@@ -140,6 +155,7 @@ pub fn report(
         edge_blocks,
         reach,
         block_count,
+        edges_taken,
         ends,
         jump,
         lower,

@@ -65,6 +65,7 @@ pub record ReportRoom (n m k : ℕ) (was : Lent) : Type 0 where
   pub edge-blocks : length (was .written .edgeBlocks) ≡ m
   pub reach : length (was .written .reach) ≡ n
   pub block-count : length (was .written .blockCount) ≡ n
+  pub edges-taken : length (was .written .edgesTaken) ≡ n
   pub compared-parents : length (was .compared .parents) ≡ n
   pub compared-weights : length (was .compared .weights) ≡ n
   pub ends : length (was .work .ends) ≡ n
@@ -112,6 +113,7 @@ module _ {o ranks : List ℕ} {B k : ℕ} {of : Net} (g : Ready o ranks B k of) 
           right-length _ _ (room .edge-blocks),
           right-length _ _ (room .reach ∙ v),
           right-length _ _ (room .block-count ∙ v),
+          right-length _ _ (room .edges-taken ∙ v),
           right-length _ _ (room .compared-parents ∙ v),
           right-length _ _ (room .compared-weights ∙ v),
           right-length _ _ (room .ends ∙ v),

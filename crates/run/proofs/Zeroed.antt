@@ -88,7 +88,7 @@ module _ {o ranks : List ℕ} {B k : ℕ} {of : Net} (g : Ready o ranks B k of) 
       → ReportRoom (length o) (length (edges ranks)) k
       (lent
       (written (divisionOf (part vertexCapacity (length o)) (part vertexCapacity (length o)) (part vertexCapacity (length o)) (part maxBlocks blocks)) (part edgeCapacity (length ranks / 2))
-      (part vertexCapacity (length o)) (part vertexCapacity (length o)))
+      (part vertexCapacity (length o)) (part vertexCapacity (length o)) (part vertexCapacity (length o)))
       (net (part vertexCapacity (length o)) (part vertexCapacity (length o)))
       (workOf (part vertexCapacity (length o)) (part vertexCapacity (length o)) (part (vertexCapacity + edgeCapacity) (length o + length ranks / 2))))
   report-room {blocks} is =
@@ -101,6 +101,7 @@ module _ {o ranks : List ℕ} {B k : ℕ} {of : Net} (g : Ready o ranks B k of) 
         edge-blocks = part-length edgeCapacity (length ranks / 2) half-fits ∙ sym (edges-length ranks);
         reach = v;
         block-count = v;
+        edges-taken = v;
         compared-parents = v;
         compared-weights = v;
         ends = v;

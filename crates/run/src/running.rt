@@ -73,6 +73,7 @@ fn report_on(
     let mut edge_blocks = [0u32; EDGES];
     let mut reach = [0u32; VERTICES];
     let mut block_count = [0u32; VERTICES];
+    let mut edges_taken = [0u32; VERTICES];
     let mut compared_parents = [0u32; VERTICES];
     let mut compared_weights = [0u32; VERTICES];
     let mut ends = [0u32; VERTICES];
@@ -91,6 +92,7 @@ fn report_on(
         &mut edge_blocks[..m],
         &mut reach[..n],
         &mut block_count[..n],
+        &mut edges_taken[..n],
         &mut compared_parents[..n],
         &mut compared_weights[..n],
         &mut ends[..n],

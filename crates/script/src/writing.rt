@@ -115,11 +115,13 @@ pub fn figures(
     m: usize,
     reach: &[u32; MOST],
     block_count: &[u32; MOST],
+    edges_taken: &[u32; MOST],
     n: usize,
 ) {
     table(edge_blocks, m);
     table(reach, n);
     table(block_count, n);
+    table(edges_taken, n);
 }
 
 fn widened(x: u8) -> u32 {

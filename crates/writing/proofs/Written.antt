@@ -1,40 +1,28 @@
 -- What the steps of writing a report leave, put together.
 -- Assumes nothing.
-use mathlib.Core.Path.{_≡_, refl, sym, ap, ap₂, subst, _∙_}
-use mathlib.Core.Logic.{⊎-elim}
-use mathlib.Core.Bool.{Bool, true, false}
-use mathlib.Core.List.{List, List·Memᴰ}
-use Prim.Native.Nat.{ℕ, suc, _+_, _≤_, _<_}
-use native.Mathlib.Nat.{add-zero}
-use native.Mathlib.Numerals.{add-one}
-use native.Mathlib.Decide.{le-ind}
+use mathlib.Core.Path.{_≡_, sym, ap, ap₂, subst, _∙_}
+use mathlib.Core.List.{List}
+use Prim.Native.Nat.{ℕ}
 use native.Mathlib.Omega.{arith}
-use lib.ListN.{length, getD}
-use Rattle.game.specs.Table.{tabulate, sum, member}
+use lib.ListN.{length, getD, replicate}
+use Rattle.game.specs.Table.{tabulate}
 use Rattle.game.specs.Edge.{Edge}
 use Rattle.game.specs.Net.{Net, net, reach, weights}
-use Rattle.game.specs.Graph.{Proper}
-use Rattle.game.proofs.Tables.{member-in, tabulate-length, tabulate-ext}
+use Rattle.game.proofs.Tables.{tabulate-length}
 use Rattle.refusal.specs.Refusal.{firstFault}
 use Rattle.refusal.proofs.Fault.{proper-faultless}
 use Rattle.bucket.specs.Filed.{Filed}
-use Rattle.growth.specs.Work.{Work, workOf, cleared}
+use Rattle.growth.specs.Work.{Work, workOf, zeros, cleared}
 use Rattle.partition.specs.Divide.{DivisionTables, divisionOf, divided}
-use Rattle.packing.specs.Pack.{maxBlocks}
 use Rattle.groups.specs.Cut.{top}
 use Rattle.partition.specs.Steps.{Fitting}
-use Rattle.groups.proofs.Sums.{only}
-use Rattle.reach.proofs.Counts.{bool-false}
-use Rattle.cost.specs.Figures.{different, edgeBlocks, blocksAt, blockCount, bound, boundOf, volumeOf, totals, totalsOf}
+use Rattle.cost.specs.Figures.{edgeBlocks, blockCount, bound, boundOf, volumeOf, totals, totalsOf}
 use Rattle.summing.specs.Steps.{boundBy, volumeBy}
-use Rattle.cost.specs.Steps.{Countable}
+use Rattle.meeting.specs.Taken.{edgesTaken}
+use Rattle.meeting.specs.Steps.{Countable, Writes}
 use Rattle.writing.specs.Written.{written, figures}
 use Rattle.writing.specs.Steps.{Reportable, Spread, Answered}
-use Rattle.summing.proofs.Sums.{sum-next}
-use Rattle.cost.proofs.Sums.{table-total}
-use Rattle.cost.proofs.Blocks.{block-at}
 use Rattle.cost.proofs.Divided.{cuts, packed, divided-top, divided-block, block-below}
-use Rattle.cost.proofs.Stamps.{different-total}
 use Rattle.cost.proofs.Summed.{bound-by, volume-by}
 
 -- tables fit as long as their lengths are kept
@@ -42,47 +30,8 @@ pub fitting-kept : {n : ℕ} {c t b l : List ℕ} → Fitting n (divisionOf c t 
     → length c′ ≡ length c → length t′ ≡ length t → length b′ ≡ length b → Fitting n (divisionOf c′ t′ b′ l)
 fitting-kept f e g h = record { carried = e ∙ f .carried; top = g ∙ f .top; block = h ∙ f .block; some = f .some; few = f .few }
 
--- blocks below k are counted alike by any larger number
-different-next : (n : ℕ) (bs : List ℕ) → different (suc n) bs ≡ different n bs + only (member n bs) 1
-different-next n bs = as-sum (suc n) ∙ subst (λ (m : ℕ). sum (tabulate m f) ≡ sum (tabulate n f) + f n) (add-one n) (sum-next n f) ∙ ap (λ (v : ℕ). v + f n) (sym (as-sum n))
-  where
-    f : ℕ → ℕ
-    f j = only (member j bs) 1
-
-    as-sum : (m : ℕ) → different m bs ≡ sum (tabulate m f)
-    as-sum m = different-total m bs ∙ sym (table-total m f)
-
-different-more : (k m : ℕ) (bs : List ℕ) → ((j : ℕ) → List·Memᴰ j bs → j < k) → k ≤ m → different m bs ≡ different k bs
-different-more k m bs below h =
-    le-ind (λ (m : ℕ). different m bs ≡ different k bs) refl
-    (λ n g e.
-    let none : member n bs ≡ false = bool-false (member n bs) (λ (t : member n bs ≡ true). omega (arith, below n (member-in n bs t))) in
-    different-next n bs ∙ ap₂ _+_ e (ap (λ (b : Bool). only b 1) none) ∙ add-zero (different k bs))
-    m h
-
--- What Divide's blocks count to.
-module _ (of : Net) (B k : ℕ) (some : 0 < k) (few : k ≤ maxBlocks) {es : List Edge} (proper : Proper (length (of .parents)) es) where
-  n : ℕ
-  n = length (of .parents)
-
-  block : List ℕ
-  block = divided of B k .block
-
-  at-below : (y : ℕ) → y < n → (j : ℕ) → List·Memᴰ j (blocksAt block es y) → j < k
-  unfolding n block
-  at-below y h j m =
-      ⊎-elim
-      (λ d. let (e, i, l, q) = d in rw q (block-below of B k some y h))
-      (λ d. let (u, l, e, q) = d in rw q (block-below of B k some u (omega arith)))
-      (block-at block es y m)
-
-  -- a stamp for each of the most blocks there can be tells the block counts
-  pub counts-any : tabulate (length (of .parents)) (blockCount maxBlocks (divided of B k .block) es) ≡ tabulate (length (of .parents)) (blockCount k (divided of B k .block) es)
-  unfolding blockCount n block
-  counts-any = tabulate-ext n (blockCount maxBlocks block es) (blockCount k block es) (λ y h. different-more k maxBlocks (blocksAt block es y) (at-below y h) few)
-
 -- once the net is divided and its reaches are written
-module _ {p w c t b l eb re bc en lo : List ℕ} {es : List Edge} {B : ℕ} (q : Reportable p w B es en lo (written (divisionOf c t b l) eb re bc)) {c′ t′ b′ l′ re′ : List ℕ}
+module _ {p w c t b l eb re bc en lo : List ℕ} {es : List Edge} {B : ℕ} (q : Reportable p w B es en lo (divisionOf c t b l) eb re bc) {c′ t′ b′ l′ re′ : List ℕ}
     (s : Spread p w B (length l) es (divisionOf c′ t′ b′ l′) re′) where
   of : Net
   of = net p w
@@ -112,35 +61,36 @@ module _ {p w c t b l eb re bc en lo : List ℕ} {es : List Edge} {B : ℕ} (q :
   pub block-faultless : firstFault (length b′) es ≡ 0
   block-faultless = ap (λ (n : ℕ). firstFault n es) block-long ∙ proper-faultless (length p) es (q .own .proper)
 
-  below-most : (x : ℕ) → x < length b′ → getD b′ x 0 < maxBlocks
+  pub block-countable : {m : ℕ} {bc′ ta ju : List ℕ} → m ≡ length l → length bc′ ≡ length bc → length ta ≡ length p → length ju ≡ length p → Countable es w b′ m en lo bc′ ta ju
   unfolding of k
-  below-most x h =
-      omega (arith, ap (λ (t : List ℕ). getD t x 0) block-is, block-below of B k (q .division .some) x (omega (arith, block-long)), q .division .few)
-
-  pub block-countable : {bc′ : List ℕ} → length bc′ ≡ length bc → Countable es w b′ en lo bc′
-  block-countable f = record {
+  block-countable {m} e f g h = record {
     few = omega (arith, block-long, q .own .vertices);
+    few-edges = q .own .few;
     filed = subst (λ (n : ℕ). Filed n es en lo) (sym block-long) (q .filed);
     weighed = q .weighed ∙ ap (λ (n : ℕ). weights n es) (sym block-long);
-    blocks = below-most;
-    table = f ∙ q .counts ∙ sym block-long;
+    some = omega (arith, q .division .some);
+    small = omega (arith, q .division .few);
+    blocks = λ x i. omega (arith, ap (λ (t : List ℕ). getD t x 0) block-is, block-below of B k (q .division .some) x (omega (arith, block-long)));
+    counts-long = f ∙ q .counts ∙ sym block-long;
+    taken-long = g ∙ sym block-long;
+    pending-long = h ∙ sym block-long;
   }
 
   -- all that was written, and the answer
-  pub all-answered : {eb″ bc″ jump : List ℕ} {bo vo : ℕ} {work : Work} → eb″ ≡ edgeBlocks b′ es → bc″ ≡ tabulate (length b′) (blockCount maxBlocks b′ es)
-      → work ≡ cleared (workOf en jump lo) → bo ≡ boundBy p t′ re′ → vo ≡ volumeBy bc″
-      → Answered (net p w) B (length l) es (workOf en jump lo) (totals bo vo) (written (divisionOf c′ t′ b′ l′) eb″ re′ bc″) work
-  unfolding figures totalsOf boundOf volumeOf of k
-  all-answered {eb″} {bc″} f g z u v = record {
+  pub all-answered : {m : ℕ} {eb″ bc″ ta″ jump : List ℕ} (jump′ : List ℕ) {bo vo : ℕ} {work : Work} → m ≡ length l → eb″ ≡ edgeBlocks b′ es → Writes es b′ m bc″ ta″
+      → length jump′ ≡ length jump → work ≡ cleared (workOf en jump′ lo) → bo ≡ boundBy p t′ re′ → vo ≡ volumeBy bc″
+      → Answered (net p w) B (length l) es (workOf en jump lo) (totals bo vo) (written (divisionOf c′ t′ b′ l′) eb″ re′ bc″ ta″) work
+  unfolding figures totalsOf boundOf volumeOf of k cleared zeros
+  all-answered {m} {eb″} {bc″} {ta″} jump′ e f g j z u v = record {
     answers = ap₂ totals
         (u ∙ bound-by p es t′ (s .reached) ∙ ap (bound p es) top-is)
         (v ∙ volume-by (length p) (length l) (divided of B k .block) es counted);
-    writes = λ i. written (s .divided-so i) ((f ∙ ap (λ (t : List ℕ). edgeBlocks t es) block-is) i) (s .reached i) (counted i);
-    clear = z;
+    writes = λ i. written (s .divided-so i) ((f ∙ ap (λ (t : List ℕ). edgeBlocks t es) block-is) i) (s .reached i) (counted i) (took i);
+    clear = z ∙ ap (λ (n : ℕ). workOf (zeros en) (replicate n 0) (zeros lo)) j;
   }
     where
       counted : bc″ ≡ tabulate (length p) (blockCount (length l) (divided of B k .block) es)
-      counted =
-          g
-          ∙ (λ i. tabulate (block-long i) (blockCount maxBlocks (block-is i) es))
-          ∙ counts-any of B k (q .division .some) (q .division .few) (q .own .proper)
+      counted = g .counted ∙ (λ i. tabulate (block-long i) (blockCount (e i) (block-is i) es))
+
+      took : ta″ ≡ tabulate (length p) (edgesTaken (length l) (divided of B k .block) es)
+      took = g .took ∙ (λ i. tabulate (block-long i) (edgesTaken (e i) (block-is i) es))

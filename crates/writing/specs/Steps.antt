@@ -18,15 +18,15 @@ use Rattle.cost.specs.Figures.{totalsOf}
 use Rattle.writing.specs.Written.{Written, figures}
 
 -- What writing is given: a net that is the net of its edges, which are filed, that Divide accepts, and tables that fit.
-pub record Reportable (p w : List ℕ) (B : ℕ) (es : List Edge) (ends lower : List ℕ) (was : Written) : Type 0 where
+pub record Reportable (p w : List ℕ) (B : ℕ) (es : List Edge) (ends lower : List ℕ) (was : DivisionTables) (edgeBlocks reach blockCount : List ℕ) : Type 0 where
   pub own : Given p w es
   pub weighed : w ≡ weights (length p) es
   pub filed : Filed (length p) es ends lower
   pub divisible : Divisible p w B
-  pub division : Fitting (length p) (was .division)
-  pub edge-blocks : length (was .edgeBlocks) ≡ length es
-  pub reaches : length (was .reach) ≡ length p
-  pub counts : length (was .blockCount) ≡ length p
+  pub division : Fitting (length p) was
+  pub edge-blocks : length edgeBlocks ≡ length es
+  pub reaches : length reach ≡ length p
+  pub counts : length blockCount ≡ length p
 
 -- what the first step leaves
 pub record Spread (p w : List ℕ) (B k : ℕ) (es : List Edge) (division : DivisionTables) (reaches : List ℕ) : Type 0 where

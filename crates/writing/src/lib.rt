@@ -3,6 +3,8 @@
 use cost::Totals;
 use partition::cut_and_pack;
 use reach::reaches;
+use table::narrow;
+ghost use mathlib.Core.Path.{_≡_};
 ghost use mathlib.Core.List.{List};
 ghost use lib.ListN.{length};
 ghost use Rattle.game.specs.Edge.{Edge, edges as edgesOf};
@@ -29,9 +31,9 @@ fn divide_and_reach(
     block_count: &mut [u32],
 )
     requires { ⌜ ((es : List Edge) × Reportable (now parents) (now weights) limit es (now ends) (now lower)
-        (written (divisionOf (now carried) (now top) (now block) (now «block_loads»)) (now «edge_blocks») (now reach) (now «block_count»))) ⌝ }
+        (divisionOf (now carried) (now top) (now block) (now «block_loads»)) (now «edge_blocks») (now reach) (now «block_count»)) ⌝ }
     ensures { λ _. ⌜ ((es : List Edge) → Reportable (now (parents .entry)) (now (weights .entry)) limit es (now (ends .entry)) (now (lower .entry))
-        (written (divisionOf (now (carried .entry)) (now (top .entry)) (now (block .entry)) (now («block_loads» .entry))) (now («edge_blocks» .entry)) (now (reach .entry)) (now («block_count» .entry)))
+        (divisionOf (now (carried .entry)) (now (top .entry)) (now (block .entry)) (now («block_loads» .entry))) (now («edge_blocks» .entry)) (now (reach .entry)) (now («block_count» .entry))
         → Spread (now (parents .entry)) (now (weights .entry)) limit (length (now («block_loads» .entry))) es
         (divisionOf (now (carried .exit)) (now (top .exit)) (now (block .exit)) (now («block_loads» .exit))) (now (reach .exit))) ⌝ }
 {
@@ -64,15 +66,17 @@ pub fn write_report(
     edge_blocks: &mut [u32],
     reach: &mut [u32],
     block_count: &mut [u32],
+    edges_taken: &mut [u32],
     ends: &mut [u32],
     jump: &mut [u32],
     lower: &mut [u32],
 ) -> Totals
     requires { ⌜ Reportable (now parents) (now weights) limit (edgesOf (now edges)) (now ends) (now lower)
-        (written (divisionOf (now carried) (now top) (now block) (now «block_loads»)) (now «edge_blocks») (now reach) (now «block_count»)) ⌝ }
+        (divisionOf (now carried) (now top) (now block) (now «block_loads»)) (now «edge_blocks») (now reach) (now «block_count»)
+        × (length (now «edges_taken») ≡ length (now parents)) × (length (now jump) ≡ length (now parents)) ⌝ }
     ensures { λ r. ⌜ Answered (net (now (parents .entry)) (now (weights .entry))) limit (length (now («block_loads» .entry))) (edgesOf (now (edges .entry)))
         (workOf (now (ends .entry)) (now (jump .entry)) (now (lower .entry))) r
-        (written (divisionOf (now (carried .exit)) (now (top .exit)) (now (block .exit)) (now («block_loads» .exit))) (now («edge_blocks» .exit)) (now (reach .exit)) (now («block_count» .exit)))
+        (written (divisionOf (now (carried .exit)) (now (top .exit)) (now (block .exit)) (now («block_loads» .exit))) (now («edge_blocks» .exit)) (now (reach .exit)) (now («block_count» .exit)) (now («edges_taken» .exit)))
         (workOf (now (ends .exit)) (now (jump .exit)) (now (lower .exit))) ⌝ }
 {
     divide_and_reach(
@@ -90,7 +94,17 @@ pub fn write_report(
         block_count,
     );
     cost::write_edge_blocks(edges, block, edge_blocks);
-    cost::write_block_counts(weights, block, ends, lower, block_count);
+    meeting::write_block_counts(
+        weights,
+        edges,
+        block,
+        narrow(block_loads.len()),
+        ends,
+        lower,
+        block_count,
+        edges_taken,
+        jump,
+    );
     growth::clear(ends, jump, lower, 0);
     let bound = cost::bound(parents, top, reach);
     let volume = cost::volume(block_count);

@@ -1,0 +1,4 @@
+-- The blocks that a vertex meets, and how many of its edges their count takes.
+pub mod Taken
+pub mod Example
+pub mod Steps

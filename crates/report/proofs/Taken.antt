@@ -1,0 +1,40 @@
+-- The edges taken of every accepted report: where the count of each vertex ends.
+-- Assumes nothing.
+use mathlib.Core.Path.{_≡_, ap, _∙_}
+use mathlib.Core.List.{List, []}
+use Prim.Native.Nat.{ℕ, _<_}
+use native.Mathlib.Omega.{arith}
+use lib.ListN.{length, getD}
+use Rattle.game.specs.Table.{tabulate}
+use Rattle.game.specs.Edge.{edges}
+use Rattle.game.specs.Net.{Net}
+use Rattle.game.proofs.Tables.{tabulate-entry}
+use Rattle.refusal.specs.Verdict.{accepted}
+use Rattle.refusal.proofs.First.{unless-accepted}
+use Rattle.partition.specs.Divide.{divided}
+use Rattle.partition.proofs.Refused.{divide-known}
+use Rattle.cost.specs.declared.Totals.{Totals}
+use Rattle.cost.specs.Figures.{blocksAt}
+use Rattle.meeting.specs.Taken.{edgesTaken, CountEnds}
+use Rattle.meeting.proofs.Taken.{taken-ends, ends-count, nothing-open}
+use Rattle.writing.specs.Written.{Written, figures}
+use Rattle.report.specs.Report.{Lent, reportOutcome}
+use Rattle.report.proofs.Refused.{ready}
+use Rattle.report.proofs.Together.{passed, written}
+
+module _ (of : Net) (B k : ℕ) (xs : List ℕ) (was : Lent) {totals : Totals} (answer : reportOutcome of B k xs was .verdict ≡ accepted totals) where
+  taken : reportOutcome of B k xs was .tables .written .edgesTaken ≡ tabulate (length (of .parents)) (edgesTaken k (divided of B k .block) (edges xs))
+  unfolding reportOutcome figures
+  taken =
+      ap (λ (t : Lent). t .written .edgesTaken) (unless-accepted _ was _ (passed of B k xs was answer .0))
+      ∙ ap (λ (w : Written). w .edgesTaken) (unless-accepted _ (was .written) (figures of B k (edges xs)) (passed of B k xs was answer .1))
+
+  -- "up to and with the first that completes the k, or all if none does"
+  pub report-taken : (x : ℕ) → x < length (of .parents)
+      → CountEnds k (blocksAt (reportOutcome of B k xs was .tables .written .division .block) (edges xs) x) (getD (reportOutcome of B k xs was .tables .written .edgesTaken) x 0)
+  unfolding edgesTaken
+  report-taken x h =
+      let d = divide-known (of .parents) (of .weights) B k (was .written .division) (ready of B k xs was (passed of B k xs was answer .0) .divides) in
+      let some : 0 < k = omega (arith, d .tables .some, d .blocks) in
+      rw (written of B k xs was answer, taken, tabulate-entry (length (of .parents)) (edgesTaken k (divided of B k .block) (edges xs)) x 0 h)
+      (ends-count (taken-ends k [] (blocksAt (divided of B k .block) (edges xs) x) (nothing-open k some)))
