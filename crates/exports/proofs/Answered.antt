@@ -4,12 +4,7 @@ use mathlib.Core.Path.{_≡_, _∙_, ap, ap₂, refl}
 use Prim.Native.Nat.{ℕ}
 use Rattle.refusal.specs.Verdict.{Verdict, number}
 use Rattle.refusal.specs.Outcome.{Outcome, Done, ended}
-use Rattle.moving.specs.declared.Moved.{Moved}
-use Rattle.moving.specs.declared.GrowthAnswer.{GrowthAnswer}
-use Rattle.moving.specs.declared.GrowthAnswer.the-variants.{Accepted, Refused}
-use Rattle.moving.specs.Moved.{rankOf}
-use Rattle.moving.specs.Answer.{verdict}
-use Rattle.exports.specs.Returned.{returned, handed, filled, told, handedCells}
+use Rattle.handing.specs.Returned.{returned, handed, filled, told, handedCells}
 
 pub handed-as : {A : Type 0} {k : ℕ} {v : Verdict (Unit {0})} {t : A} {o : Done A} → k ≡ number v → ended v t ≡ o → returned k t ≡ handed o
 unfolding handed
@@ -19,13 +14,3 @@ handed-as e h = ap₂ returned e refl ∙ ap handed h
 pub filled-as : {X C A : Type 0} (hold : X → C) (was : C) {k : ℕ} {c : C} {v : Verdict X} {t : A} {o : Outcome X A} → k ≡ number v → c ≡ told hold v was → ended v t ≡ o → filled k c t ≡ handedCells hold was o
 unfolding handedCells
 filled-as hold was {v = v} {t = t} e f h = ap₂ (λ k c. filled k c t) e f ∙ ap (handedCells hold was) h
-
--- where the forest moved, handed over case by case
-module _ (was : ℕ) {answer : GrowthAnswer} where
-  pub rank-accepted : {its : Moved} {k : ℕ} → answer ≡ Accepted its → k ≡ rankOf its → (0 ≡ number (verdict answer)) × (k ≡ told rankOf (verdict answer) was)
-  unfolding verdict number told
-  rank-accepted e r = rw e (refl, r)
-
-  pub rank-refused : {k : ℕ} → answer ≡ Refused k → (k ≡ number (verdict answer)) × (was ≡ told rankOf (verdict answer) was)
-  unfolding verdict number told
-  rank-refused e = rw e (refl, refl)

@@ -2,8 +2,9 @@
 // its answer as a number, 0 if it was accepted. A table passes as a pointer and a length. Nothing is checked at this boundary, so no
 // function here asks anything of its caller that its types do not say: tables are readable or writable over their length, and one
 // that is written overlaps no other.
-use moving::GrowthAnswer;
-use report::ReportAnswer;
+use handing::hand_place;
+use handing::hand_rank;
+use handing::hand_totals;
 ghost use mathlib.Core.Path.{_≡_};
 ghost use Rattle.game.specs.Net.{net};
 ghost use Rattle.growth.specs.Work.{withWork, workOf};
@@ -20,10 +21,7 @@ ghost use Rattle.querying.specs.Query.{place, queryPlace};
 ghost use Rattle.writing.specs.Written.{written};
 ghost use Rattle.report.specs.Report.{lent, reportOutcome};
 ghost use Rattle.cost.specs.Figures.{totals};
-ghost use Rattle.refusal.specs.Verdict.{number};
-ghost use Rattle.moving.specs.Moved.{rankOf};
-ghost use Rattle.moving.specs.Answer.{verdict};
-ghost use Rattle.exports.specs.Returned.{returned, handed, filled, told, handedTotals, handedRank};
+ghost use Rattle.handing.specs.Returned.{returned, handed, filled, handedTotals, handedRank};
 
 #[no_mangle]
 pub extern "C" fn niqastul_relabel(
@@ -46,19 +44,6 @@ pub extern "C" fn niqastul_start(parents: &mut [u32], weights: &mut [u32]) -> u3
         ≡ handed (startOutcome (net (now (parents .entry)) (now (weights .entry)))) ⌝ }
 {
     refusal::code(forest::start(parents, weights))
-}
-
-// Hands over where a forest moved, as a rank in the cell, which a refusal leaves as it was; answers the number.
-fn hand_rank(answer: GrowthAnswer, moved: &mut u32) -> u32
-    ensures { λ r. ⌜ (r ≡ number (verdict answer)) × (now (moved .exit) ≡ told rankOf (verdict answer) (now (moved .entry))) ⌝ }
-{
-    match answer {
-        GrowthAnswer::Accepted(its) => {
-            *moved = moving::rank(its);
-            0
-        }
-        GrowthAnswer::Refused(number) => number,
-    }
 }
 
 // Of an addition and a join the lowest vertex that moved goes into the cell, absent if none did.
@@ -187,7 +172,7 @@ pub extern "C" fn niqastul_report(
         (net (now («compared_parents» .entry)) (now («compared_weights» .entry)))
         (workOf (now (ends .entry)) (now (jump .entry)) (now (lower .entry))))) ⌝ }
 {
-    match report::report(
+    let answer = report::report(
         parents,
         weights,
         limit,
@@ -206,14 +191,8 @@ pub extern "C" fn niqastul_report(
         ends,
         jump,
         lower,
-    ) {
-        ReportAnswer::Accepted(totals) => {
-            *bound = totals.bound;
-            *volume = totals.volume;
-            0
-        }
-        ReportAnswer::Refused(why) => why,
-    }
+    );
+    hand_totals(answer, bound, volume)
 }
 
 #[no_mangle]
@@ -242,7 +221,5 @@ pub extern "C" fn niqastul_query(
     ensures { λ r. ⌜ place r (now (first .exit)) (now (count .exit)) ≡ queryPlace (index (now (starts .entry)) (now (neighbours .entry))) rank ⌝ }
 {
     let part = querying::locate(starts, neighbours, rank);
-    *first = table::amount(part.first);
-    *count = table::amount(part.count);
-    part.number
+    hand_place(part, first, count)
 }

@@ -1,4 +1,4 @@
-use Rattle.exports.proofs.Handed.{handed-accepted, handed-refused}
+use Rattle.exports.proofs.Answered.{filled-as}
 use borrow.Author.Needs.{needs}
 use Rattle.exports.proofs.niqastul_report.Statement.{statement}
 use Rattle.exports.proofs.niqastul_report.Tie as tie
@@ -6,11 +6,8 @@ use Rattle.exports.proofs.niqastul_report.Tie as tie
 report-requires : tie.Need-report-requires
 report-requires c κs = search needs
 
-enum-known-totals : tie.Need-enum-known-totals
-enum-known-totals c = search needs
-
-enum-known-why : tie.Need-enum-known-why
-enum-known-why c = search needs
+hand-totals-requires : tie.Need-hand-totals-requires
+hand-totals-requires c κs = search needs
 
 same-length : tie.Need-same-length
 same-length c = search needs
@@ -52,57 +49,14 @@ same-length-13 : tie.Need-same-length-13
 same-length-13 c = search needs
 
 returns : tie.Need-returns
-returns c = handed-accepted _ _ (c .before .before .before .before .before .before .before .before .before .before .before .before .before .before .before .before .before .before .before .before .before .before .before .before .before .before .before .before .before .report .ensures) (c .before .totals .given .1)
-
-same-length-14 : tie.Need-same-length-14
-same-length-14 c = search needs
-
-same-length-15 : tie.Need-same-length-15
-same-length-15 c = search needs
-
-same-length-16 : tie.Need-same-length-16
-same-length-16 c = search needs
-
-same-length-17 : tie.Need-same-length-17
-same-length-17 c = search needs
-
-same-length-18 : tie.Need-same-length-18
-same-length-18 c = search needs
-
-same-length-19 : tie.Need-same-length-19
-same-length-19 c = search needs
-
-same-length-20 : tie.Need-same-length-20
-same-length-20 c = search needs
-
-same-length-21 : tie.Need-same-length-21
-same-length-21 c = search needs
-
-same-length-22 : tie.Need-same-length-22
-same-length-22 c = search needs
-
-same-length-23 : tie.Need-same-length-23
-same-length-23 c = search needs
-
-same-length-24 : tie.Need-same-length-24
-same-length-24 c = search needs
-
-same-length-25 : tie.Need-same-length-25
-same-length-25 c = search needs
-
-same-length-26 : tie.Need-same-length-26
-same-length-26 c = search needs
-
-returns-2 : tie.Need-returns-2
-returns-2 c = handed-refused _ _ (c .before .before .before .before .before .before .before .before .before .before .before .before .before .before .before .before .before .before .before .before .before .before .before .before .before .before .before .before .before .report .ensures) (c .before .why .given .1)
+returns c = filled-as _ _ (c .hand-totals .ensures .0) (c .hand-totals .ensures .1) (c .before .before .before .before .before .before .before .before .before .before .before .before .before .before .before .before .before .before .before .before .before .before .before .before .before .before .before .before .before .report .ensures)
 
 pub niqastul-report-spec : {M : Type 1} → statement M
 niqastul-report-spec =
     tie.close
     (tie.spec
     report-requires
-    enum-known-totals
-    enum-known-why
+    hand-totals-requires
     same-length
     same-length-2
     same-length-3
@@ -116,18 +70,4 @@ niqastul-report-spec =
     same-length-11
     same-length-12
     same-length-13
-    returns
-    same-length-14
-    same-length-15
-    same-length-16
-    same-length-17
-    same-length-18
-    same-length-19
-    same-length-20
-    same-length-21
-    same-length-22
-    same-length-23
-    same-length-24
-    same-length-25
-    same-length-26
-    returns-2)
+    returns)

@@ -1,7 +1,7 @@
-use Rattle.exports.proofs.Answered.{rank-accepted, rank-refused}
+use Rattle.handing.proofs.Handed.{rank-accepted, rank-refused}
 use borrow.Author.Needs.{needs}
-use Rattle.exports.proofs.hand_rank.Statement.{statement}
-use Rattle.exports.proofs.hand_rank.Tie as tie
+use Rattle.handing.proofs.hand_rank.Statement.{statement}
+use Rattle.handing.proofs.hand_rank.Tie as tie
 
 enum-known-answer : tie.Need-enum-known-answer
 enum-known-answer c = search needs

@@ -34,6 +34,9 @@ unfoldable pub told : {X C : Type 0} → (X → C) → Verdict X → C → C
 told hold (accepted values) was = hold values
 told hold (refused k) was = was
 
+abbrev pub toldTotals : Verdict Totals → Totals → Totals
+toldTotals v was = told (λ (totals : Totals). totals) v was
+
 unfoldable pub handedCells : {X C A : Type 0} → (X → C) → C → Outcome X A → Filled C A
 handedCells hold was o = filled (number (o .verdict)) (told hold (o .verdict) was) (o .tables)
 

@@ -1,0 +1,35 @@
+-- A verdict handed over, case by case.
+-- Assumes nothing.
+use mathlib.Core.Path.{_≡_, refl}
+use Prim.Native.Nat.{ℕ}
+use Rattle.refusal.specs.Verdict.{number}
+use Rattle.moving.specs.declared.Moved.{Moved}
+use Rattle.moving.specs.declared.GrowthAnswer.{GrowthAnswer}
+use Rattle.moving.specs.declared.GrowthAnswer.the-variants as growth
+use Rattle.moving.specs.Moved.{rankOf}
+use Rattle.moving.specs.Answer.{verdict as growthVerdict}
+use Rattle.cost.specs.declared.Totals.{Totals}
+use Rattle.report.specs.declared.ReportAnswer.{ReportAnswer}
+use Rattle.report.specs.declared.ReportAnswer.the-variants as report
+use Rattle.report.specs.Answer.{verdict as reportVerdict}
+use Rattle.handing.specs.Returned.{told, toldTotals}
+
+-- where a forest moved
+module _ (was : ℕ) {answer : GrowthAnswer} where
+  pub rank-accepted : {its : Moved} {k : ℕ} → answer ≡ growth.Accepted its → k ≡ rankOf its → (0 ≡ number (growthVerdict answer)) × (k ≡ told rankOf (growthVerdict answer) was)
+  unfolding growthVerdict number told
+  rank-accepted e r = rw e (refl, r)
+
+  pub rank-refused : {k : ℕ} → answer ≡ growth.Refused k → (k ≡ number (growthVerdict answer)) × (was ≡ told rankOf (growthVerdict answer) was)
+  unfolding growthVerdict number told
+  rank-refused e = rw e (refl, refl)
+
+-- what a report answers
+module _ (was : Totals) {answer : ReportAnswer} where
+  pub totals-accepted : {its : Totals} → answer ≡ report.Accepted its → (0 ≡ number (reportVerdict answer)) × (its ≡ toldTotals (reportVerdict answer) was)
+  unfolding reportVerdict number told
+  totals-accepted e = rw e (refl, refl)
+
+  pub totals-refused : {k : ℕ} → answer ≡ report.Refused k → (k ≡ number (reportVerdict answer)) × (was ≡ toldTotals (reportVerdict answer) was)
+  unfolding reportVerdict number told
+  totals-refused e = rw e (refl, refl)

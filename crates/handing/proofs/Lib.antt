@@ -1,0 +1,2 @@
+-- Laws of handing over. Nothing here needs to be believed: it is all proved.
+pub mod Handed

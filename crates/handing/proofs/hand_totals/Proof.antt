@@ -1,0 +1,19 @@
+use Rattle.handing.proofs.Handed.{totals-accepted, totals-refused}
+use borrow.Author.Needs.{needs}
+use Rattle.handing.proofs.hand_totals.Statement.{statement}
+use Rattle.handing.proofs.hand_totals.Tie as tie
+
+enum-known-answer : tie.Need-enum-known-answer
+enum-known-answer c = search needs
+
+enum-known-answer-2 : tie.Need-enum-known-answer-2
+enum-known-answer-2 c = search needs
+
+returns : tie.Need-returns
+returns c = totals-accepted _ (c .before .answer .given .1)
+
+returns-2 : tie.Need-returns-2
+returns-2 c = totals-refused _ (c .before .answer2 .given .1)
+
+pub hand-totals-spec : {M : Type 1} → statement M
+hand-totals-spec = tie.close (tie.spec enum-known-answer enum-known-answer-2 returns returns-2)
