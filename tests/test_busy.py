@@ -4,11 +4,11 @@ import collections
 import random
 
 import nets
-from commands import THREE, a_folder, broken
+from commands import THREE, a_folder
 from harness import test
 from oracle import blocks, calls
 from oracle.forest import loads_of, parents_of, ties_of
-from test_commands import FAULTS, WANTS, WHOLE, untouched
+from test_commands import FAULTS, WANTS, WHOLE, broken_three, untouched
 from test_oracle import file_of
 
 COMMAND = ("busy", *THREE)
@@ -75,12 +75,7 @@ def broken_files(t):
     met = set()
     with a_folder() as folder:
         for seed in range(300):
-            rng = random.Random(seed)
-            n = rng.randrange(1, 8)
-            lists = rng.sample(range(n), n), nets.flat(nets.ties(rng, n, rng.choice(nets.SHAPES))), (rng.randrange(1, 9), rng.randrange(1, 5))
-            files = [file_of(*numbers) for numbers in lists]
-            files[1] += file_of(0, 0) * (seed % 10 == 0)
-            files = broken(rng, files, values=5)
+            files = broken_three(seed, values=5)
             number = blocks.refusal(*files)
             met.add(number)
             if number:

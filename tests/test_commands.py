@@ -103,18 +103,23 @@ def longest_files(t):
         t.true(not (folder.path / "out").exists())
 
 
+def broken_three(seed, values=256):
+    """The three files of a small net, with a faulty tie now and then, and one of them broken."""
+    rng = random.Random(seed)
+    n = rng.randrange(1, 8)
+    lists = rng.sample(range(n), n), nets.flat(nets.ties(rng, n, rng.choice(nets.SHAPES))), (rng.randrange(1, 9), rng.randrange(1, 5))
+    files = [file_of(*numbers) for numbers in lists]
+    files[1] += file_of(0, 0) * (seed % 10 == 0)
+    return broken(rng, files, values)
+
+
 @test(at_least=1_000)
 def broken_files(t):
     """Small nets, a byte now and then changed or left out: refused as document 01 says, or done."""
     seen = set()
     with a_folder() as folder:
         for seed in range(200):
-            rng = random.Random(seed)
-            n = rng.randrange(1, 8)
-            lists = rng.sample(range(n), n), nets.flat(nets.ties(rng, n, rng.choice(nets.SHAPES))), (rng.randrange(1, 9), rng.randrange(1, 5))
-            given = [file_of(*numbers) for numbers in lists]
-            given[1] += file_of(0, 0) * (seed % 10 == 0)
-            given = broken(rng, given)
+            given = broken_three(seed)
             folder.write(**dict(zip(WHOLE, given)))
             for words in READERS:
                 number = blocks.refusal(*given[:2], LARGEST if words[0] == "grow" else given[2])

@@ -12,7 +12,7 @@ use lib.Seq.{length-take-le, getD-drop, getD-take, getD-set-same, getD-set-other
 use Rattle.refusal.specs.Limits.{maxEdges}
 use Rattle.sorting.specs.Sorted.{begin, bucketOf}
 use Rattle.meeting.specs.declared.counting.Met.{Met}
-use Rattle.meeting.specs.Steps.{Fresh, Meets, Counts, takenAt, pendingAt, CountedAt, Bucketed, Counted}
+use Rattle.meeting.specs.Steps.{Fresh, Meets, Counts, known, knownAt, CountedAt, Bucketed, Counted}
 
 -- a part of a table, from one place up to another
 abbrev part : ℕ → ℕ → List ℕ → List ℕ
@@ -77,23 +77,21 @@ module _ {ends lower weights block : List ℕ} {k : ℕ} {counts₀ taken₀ pen
       pub turn-read : r .read ≤ maxEdges
       turn-read = omega (arith, s .found .within, part-length at end lower turn-room, turn-short)
 
-      counted-here : {u v : ℕ} → u ≡ takenAt k (getD weights y 0) (end - at) (r .count) (r .read) → v ≡ pendingAt k (getD weights y 0) (r .count) (r .read)
+      counted-here : {u v : ℕ} → known u v ≡ knownAt k (getD weights y 0) (end - at) (r .count) (r .read)
           → CountedAt k block y (getD weights y 0) (bucketOf ends lower y) (r .count) u v
       unfolding bucketOf
-      counted-here {u} {v} f g =
+      counted-here {u} {v} f =
           subst (λ (l : List ℕ). CountedAt k block y (getD weights y 0) l (r .count) u v) (λ i. part (t .start i) (e i) lower)
           (record {
             read = r .read;
             met = s .found;
-            takes = f ∙ ap (λ (m : ℕ). takenAt k (getD weights y 0) m (r .count) (r .read)) (sym (part-length at end lower turn-room));
-            waits = g;
+            so-known = f ∙ ap (λ (m : ℕ). knownAt k (getD weights y 0) m (r .count) (r .read)) (sym (part-length at end lower turn-room));
           })
 
-      pub turn-step : length stamps′ ≡ length stamps → {u v : ℕ} → u ≡ takenAt k (getD weights y 0) (end - at) (r .count) (r .read)
-          → v ≡ pendingAt k (getD weights y 0) (r .count) (r .read)
+      pub turn-step : length stamps′ ≡ length stamps → {u v : ℕ} → known u v ≡ knownAt k (getD weights y 0) (end - at) (r .count) (r .read)
           → CountTurn k ends lower weights block (set counts y (r .count)) (set taken y u) (set pending y v) stamps′ end (y + 1)
       unfolding begin
-      turn-step l {u} {v} f g = record {
+      turn-step l {u} {v} f = record {
         within = omega arith;
         start = e ∙ next;
         counts-long = length-set counts y (r .count) ∙ t .counts-long;
@@ -110,7 +108,7 @@ module _ {ends lower weights block : List ℕ} {k : ℕ} {counts₀ taken₀ pen
           here : (x : ℕ) → x ≡ y → CountedAt k block x (getD weights x 0) (bucketOf ends lower x) (getD (set counts y (r .count)) x 0) (getD (set taken y u) x 0) (getD (set pending y v) x 0)
           here x d =
               rw (d, getD-set-same counts y (r .count) 0 (omega (arith, t .counts-long)), getD-set-same taken y u 0 (omega (arith, t .taken-long)), getD-set-same pending y v 0 (omega (arith, t .pending-long)))
-              (counted-here f g)
+              (counted-here f)
 
           other : (x : ℕ) → x < y + 1 → x ≢ y → CountedAt k block x (getD weights x 0) (bucketOf ends lower x) (getD (set counts y (r .count)) x 0) (getD (set taken y u) x 0) (getD (set pending y v) x 0)
           other x i d =

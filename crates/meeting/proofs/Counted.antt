@@ -2,14 +2,13 @@
 -- Assumes nothing.
 use mathlib.Core.Path.{_≡_, refl, sym, ap, subst, _∙_}
 use mathlib.Core.Logic.{_≢_, _⊎_, inl, ⊎-elim, by-cases}
-use mathlib.Core.Bool.{false, cond}
+use mathlib.Core.Bool.{false}
 use mathlib.Core.List.{List, [], _∷_, _++_, map, List·Memᴰ, List·Memᴰ·head, List·Memᴰ·append-cases, Memᴰ·append-left, Memᴰ·append-right}
 use Prim.Native.Nat.{ℕ, zero, suc, _+_, _≤_, _<_}
 use native.Mathlib.Nat.{le-refl}
 use native.Mathlib.Decide.{ℕ-discrete}
 use native.Mathlib.Omega.{arith}
-use lib.Dec.{eqb}
-use lib.ListN.{length, getD, take}
+use lib.ListN.{length, getD, take, length-map}
 use lib.Seq.{take-all}
 use borrow.Author.Tests.{eq-eqb, ne-eqb}
 use Rattle.game.specs.Table.{member}
@@ -20,7 +19,8 @@ use Rattle.bucket.specs.Filed.{lowerEnds}
 use Rattle.cost.specs.Figures.{different, blocksAt, blockCount}
 use Rattle.cost.proofs.Blocks.{block-at}
 use Rattle.meeting.specs.Taken.{takenAfter, edgesTaken}
-use Rattle.meeting.specs.Steps.{ownBlock, metBlocks, MetAt, CountedAt, unmet, takenAt, pendingAt, waits}
+use Rattle.meeting.specs.declared.counting.Known.{Known}
+use Rattle.meeting.specs.Steps.{ownBlock, metBlocks, MetAt, CountedAt, unmet, knownAt, waits}
 use Rattle.meeting.proofs.Different.{different-same, Full, full-within, full-different, different-full, full-met, fewer-open}
 use Rattle.meeting.proofs.Taken.{take-in, Ends, taken-ends, ends-once, nothing-open}
 use Rattle.meeting.proofs.Seen.{Seen, seen, seen-length, seen-down, seen-met, met-seen}
@@ -30,10 +30,6 @@ map-take : (f : ℕ → ℕ) (i : ℕ) (xs : List ℕ) → map f (take i xs) ≡
 map-take f zero xs = refl
 map-take f (suc i) [] = refl
 map-take f (suc i) (x ∷ xs) = ap (λ (l : List ℕ). f x ∷ l) (map-take f i xs)
-
-pub map-length : (f : ℕ → ℕ) (xs : List ℕ) → length (map f xs) ≡ length xs
-map-length f [] = refl
-map-length f (x ∷ xs) = ap suc (map-length f xs)
 
 own-some : (w b : ℕ) → w ≢ 0 → ownBlock w b ≡ b ∷ []
 unfolding ownBlock
@@ -86,7 +82,7 @@ module _ {n : ℕ} (es : List Edge) (proper : Proper n es) (block : List ℕ) (y
 
     long : length ds ≡ length (lowerEnds es y)
     unfolding ds
-    long = map-length (λ (u : ℕ). getD block u 0) (lowerEnds es y)
+    long = length-map (lowerEnds es y) (λ (u : ℕ). getD block u 0)
 
     counted : count ≡ different k (ownBlock w (getD block y 0) ++ take read ds)
     counted = m .counted ∙ ap (different k) (met-front read)
@@ -153,13 +149,13 @@ module _ {n : ℕ} (es : List Edge) (proper : Proper n es) (block : List ℕ) (y
         by-cases (ℕ-discrete count k) (λ (a : count ≡ k). a ∙ sym (full-different k bs (whole (c .met) a))) (λ (f : count ≢ k). count-all (c .met) f)
 
     pub counted-taken : c .read < unmet → taken + waits block y pending es ≡ edgesTaken k block es y
-    unfolding edgesTaken takenAt pendingAt bs w
-    counted-taken h = rw (c .takes, c .waits) (by-cases (ℕ-discrete count k) met-all (λ (f : count ≢ k). rw (ne-eqb count k f) (omega (arith, taken-all (c .met) f, waits-none block y es))))
+    unfolding edgesTaken knownAt bs w
+    counted-taken h = ap sum (c .so-known) ∙ by-cases (ℕ-discrete count k) met-all (λ (f : count ≢ k). rw (ne-eqb count k f) (omega (arith, taken-all (c .met) f, waits-none block y es)))
       where
-        met-all : count ≡ k
-            → cond (eqb count k) (cond (eqb k 1) 1 (cond (eqb (weight es y) 0) (c .read) 0)) (weight es y + length (lowerEnds es y))
-            + waits block y (cond (eqb count k) (cond (eqb k 1) 0 (cond (eqb (weight es y) 0) 0 (c .read + unmet))) 0) es
-            ≡ takenAfter k [] (blocksAt block es y)
+        sum : Known → ℕ
+        sum q = q .taken + waits block y (q .pending) es
+
+        met-all : count ≡ k → sum (knownAt k (weight es y) (length (lowerEnds es y)) count (c .read)) ≡ takenAfter k [] (blocksAt block es y)
         met-all a =
             rw (eq-eqb count k a)
             (by-cases (ℕ-discrete k 1)

@@ -10,7 +10,8 @@ use lib.ListN.{getD, set}
 use lib.Seq.{set-getD}
 use borrow.Author.Tests.{eq-eqb, ne-eqb, lt-ltb, le-ltb}
 use Rattle.game.specs.Table.{one-if}
-use Rattle.meeting.specs.Steps.{unmet, takenAt, pendingAt, nextPending, nextAt, waiting, Passes}
+use Rattle.groups.proofs.Lists.{test-cases}
+use Rattle.meeting.specs.Steps.{unmet, known, knownAt, nextPending, nextAt, waiting, Passes}
 use Rattle.meeting.proofs.Waits.{next-none}
 
 -- one less, if a flag is set
@@ -43,38 +44,21 @@ module _ (down own : Bool) (p : ℕ) where
 
 -- a bucket is counted: not all blocks were met, or all, of which there is but one, or more and no edge leads up, or some does
 module _ (k weight size count read : ℕ) where
-  pub taken-fewer : (count ≡ k → ⊥) → weight + size ≡ takenAt k weight size count read
-  unfolding takenAt
-  taken-fewer d = rw (ne-eqb count k d) refl
+  pub known-fewer : (count ≡ k → ⊥) → known (weight + size) 0 ≡ knownAt k weight size count read
+  unfolding knownAt
+  known-fewer d = rw (ne-eqb count k d) refl
 
-  pub taken-one : count ≡ k → k ≡ 1 → 1 ≡ takenAt k weight size count read
-  unfolding takenAt
-  taken-one e o = rw (eq-eqb count k e, eq-eqb k 1 o) refl
+  pub known-one : count ≡ k → k ≡ 1 → known 1 0 ≡ knownAt k weight size count read
+  unfolding knownAt
+  known-one e o = rw (eq-eqb count k e, eq-eqb k 1 o) refl
 
-  pub taken-read : count ≡ k → (k ≡ 1 → ⊥) → weight ≡ 0 → read ≡ takenAt k weight size count read
-  unfolding takenAt
-  taken-read e o w = rw (eq-eqb count k e, ne-eqb k 1 o, eq-eqb weight 0 w) refl
+  pub known-read : count ≡ k → (k ≡ 1 → ⊥) → weight ≡ 0 → known read 0 ≡ knownAt k weight size count read
+  unfolding knownAt
+  known-read e o w = rw (eq-eqb count k e, ne-eqb k 1 o, eq-eqb weight 0 w) refl
 
-  pub taken-later : count ≡ k → (k ≡ 1 → ⊥) → (weight ≡ 0 → ⊥) → 0 ≡ takenAt k weight size count read
-  unfolding takenAt
-  taken-later e o w = rw (eq-eqb count k e, ne-eqb k 1 o, ne-eqb weight 0 w) refl
-
-module _ (k weight count read : ℕ) where
-  pub pending-fewer : (count ≡ k → ⊥) → 0 ≡ pendingAt k weight count read
-  unfolding pendingAt
-  pending-fewer d = rw (ne-eqb count k d) refl
-
-  pub pending-one : count ≡ k → k ≡ 1 → 0 ≡ pendingAt k weight count read
-  unfolding pendingAt
-  pending-one e o = rw (eq-eqb count k e, eq-eqb k 1 o) refl
-
-  pub pending-read : count ≡ k → (k ≡ 1 → ⊥) → weight ≡ 0 → 0 ≡ pendingAt k weight count read
-  unfolding pendingAt
-  pending-read e o w = rw (eq-eqb count k e, ne-eqb k 1 o, eq-eqb weight 0 w) refl
-
-  pub pending-later : count ≡ k → (k ≡ 1 → ⊥) → (weight ≡ 0 → ⊥) → read + unmet ≡ pendingAt k weight count read
-  unfolding pendingAt
-  pending-later e o w = rw (eq-eqb count k e, ne-eqb k 1 o, ne-eqb weight 0 w) refl
+  pub known-later : count ≡ k → (k ≡ 1 → ⊥) → (weight ≡ 0 → ⊥) → known 0 (read + unmet) ≡ knownAt k weight size count read
+  unfolding knownAt
+  known-later e o w = rw (eq-eqb count k e, ne-eqb k 1 o, ne-eqb weight 0 w) refl
 
 -- something is waited for, or nothing
 pub waits-not : {p : ℕ} → p ≡ 0 → 0 ≡ waiting p
@@ -84,6 +68,10 @@ waits-not {p} e = rw (eq-eqb p 0 e) refl
 pub waits-so : {p : ℕ} → (p ≡ 0 → ⊥) → 1 ≡ waiting p
 unfolding waiting
 waits-so {p} d = rw (ne-eqb p 0 d) refl
+
+pub waiting-le : (p : ℕ) → waiting p ≤ 1
+unfolding waiting
+waiting-le p = test-cases (eqb p 0) (λ e. rw e (omega arith)) (λ e. rw e (omega arith))
 
 -- a vertex that waits can take an edge
 pub pass-fits : (x : ℕ) (pending taken : List ℕ) {at : ℕ} → at ≡ x → (getD pending at 0 ≡ 0 → ⊥) → getD taken x 0 + waiting (getD pending x 0) < 2 ^ 32
@@ -107,12 +95,12 @@ module _ (x low : ℕ) (block pending taken : List ℕ) where
 
   module _ {at end after : ℕ} (e : at ≡ x) (l : end ≡ low) (n : getD pending at 0 ≡ 0 → ⊥)
       (f : after ≡ nextPending (not (eqb x low)) (eqb (getD block at 0) (getD block end 0)) (getD pending at 0)) where
-    pub pass-on : {r : ℕ} → r + waiting after ≡ 1 → Passes x low block pending taken (set pending at after) (set taken at (getD taken at 0 + 1)) r
+    pub pass-on : {u : ℕ} → u ≡ waiting after → Passes x low block pending taken (set pending at after) (set taken at (getD taken at 0 + 1)) (1 - u)
     unfolding nextAt
-    pass-on {r} q = record {
+    pass-on {u} q = record {
       passed = ap₂ (set pending) e next;
       took = ap₂ (set taken) e (ap₂ _+_ (ap (λ (i : ℕ). getD taken i 0) e) some);
-      settled = ap (λ (v : ℕ). r + waiting v) (sym next) ∙ q ∙ some;
+      settled = omega (arith, q, ap waiting next, waiting-le after, some);
     }
       where
         next : after ≡ nextPending (not (eqb x low)) (eqb (getD block x 0) (getD block low 0)) (getD pending x 0)
@@ -120,10 +108,3 @@ module _ (x low : ℕ) (block pending taken : List ℕ) where
 
         some : 1 ≡ waiting (getD pending x 0)
         some = waits-so n ∙ ap (λ (i : ℕ). waiting (getD pending i 0)) e
-
-    -- it waits no longer, or still waits
-    pub pass-last : after ≡ 0 → Passes x low block pending taken (set pending at after) (set taken at (getD taken at 0 + 1)) 1
-    pass-last z = pass-on (omega (arith, waits-not z))
-
-    pub pass-more : (after ≡ 0 → ⊥) → Passes x low block pending taken (set pending at after) (set taken at (getD taken at 0 + 1)) 0
-    pass-more z = pass-on (omega (arith, waits-so z))

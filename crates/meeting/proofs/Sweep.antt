@@ -18,10 +18,10 @@ use Rattle.game.specs.Graph.{Proper}
 use Rattle.game.proofs.Bools.{or-left, or-right}
 use Rattle.game.proofs.Edges.{edges-drop, edges-end}
 use Rattle.game.proofs.Proper.{proper-head, proper-tail}
-use Rattle.groups.proofs.Lists.{test-cases}
 use Rattle.bucket.specs.Ends.{endOf}
 use Rattle.cost.specs.Figures.{touches}
 use Rattle.meeting.specs.Steps.{nextAt, waiting, waitingIn, waits, Passable, Passes, Sweepable, Swept}
+use Rattle.meeting.proofs.Passing.{waiting-le}
 use Rattle.meeting.proofs.Waits.{waits-none, waits-away, waits-here}
 
 -- how many wait, entry by entry
@@ -41,10 +41,6 @@ waiting-entry (x ∷ xs) zero h = by-cases (ℕ-discrete x 0) (λ e. e) (λ (d :
 waiting-entry (x ∷ xs) (suc i) h = waiting-entry xs i (omega arith)
 
 -- as many as there are vertices, at most
-waiting-le : (p : ℕ) → waiting p ≤ 1
-unfolding waiting
-waiting-le p = test-cases (eqb p 0) (λ e. rw e (omega arith)) (λ e. rw e (omega arith))
-
 waiting-few : (xs : List ℕ) → waitingIn xs ≤ length xs
 unfolding waitingIn sum
 waiting-few [] = omega arith

@@ -8,7 +8,7 @@ use Prim.Native.Nat.{ℕ, zero, suc, _+_, _-_, _≤_, _<_}
 use native.Mathlib.Numerals.{add-one}
 use native.Mathlib.Decide.{decLt}
 use native.Mathlib.Omega.{arith}
-use lib.ListN.{length, getD, take, drop, replicate, length-replicate, getD-replicate, List·getD-eq-default}
+use lib.ListN.{length, length-map, getD, take, drop, replicate, length-replicate, getD-replicate, List·getD-eq-default}
 use Rattle.game.specs.Edge.{Edge, lower}
 use Rattle.game.specs.Net.{weight}
 use Rattle.game.proofs.Tables.{tabulate-unique}
@@ -25,7 +25,7 @@ use Rattle.meeting.specs.Taken.{edgesTaken}
 use Rattle.meeting.specs.Steps.{Fresh, CountedAt, Bucketed, Counted, waits, Sweepable, Swept, Countable, Writes}
 use Rattle.meeting.proofs.Taken.{taken-ends, nothing-open}
 use Rattle.meeting.proofs.Seen.{seen, seen-length}
-use Rattle.meeting.proofs.Counted.{map-length, counted-blocks, counted-taken}
+use Rattle.meeting.proofs.Counted.{counted-blocks, counted-taken}
 
 -- the front of a table of zeros
 zeros-front : (m n : ℕ) → m ≤ n → take {A = ℕ} m (replicate n 0) ≡ replicate m 0
@@ -106,7 +106,7 @@ module _ {es : List Edge} {weights block : List ℕ} {k : ℕ} {ends lower count
           arith,
           taken-ends k [] (blocksAt block es y) (nothing-open k (c .some)) .within,
           seen-length block y (seen block y es (c .filed .proper)),
-          map-length (λ (u : ℕ). getD block u 0) (lowerEnds es y),
+          length-map (lowerEnds es y) (λ (u : ℕ). getD block u 0),
           light y,
           few-lower y,
         )

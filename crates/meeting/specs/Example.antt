@@ -1,6 +1,6 @@
--- What the count takes, computed from the definition: of a vertex whose edges are in blocks 1, 1, 0, 2, 0, in their order; with as many
--- blocks as make it end at once, at its third and its fourth edge, and not at all; of the same edges in another order; and of a vertex
--- without edges.
+-- What the count takes, computed from the definition, by the blocks of a vertex's edges in list order: of one block, which the first edge
+-- completes; of two, which the third does; of three, which the fourth does; of four, one of which is not met, so that all edges are taken;
+-- of three again, the edges in another order; and of a vertex without edges.
 -- Assumes nothing.
 use mathlib.Core.Path.{_≡_, refl}
 use mathlib.Core.List.{List, [], _∷_}

@@ -17,6 +17,7 @@ use Rattle.packing.specs.Pack.{maxBlocks}
 use Rattle.cost.specs.Figures.{touches, different, blockCount}
 use Rattle.meeting.specs.Taken.{edgesTaken}
 use Rattle.meeting.specs.declared.counting.Met.{Met}
+use Rattle.meeting.specs.declared.counting.Known.{Known}
 
 -- the block of a vertex that has a weight, that is, a higher neighbour
 unfoldable pub ownBlock : ℕ → ℕ → List ℕ
@@ -63,17 +64,17 @@ abbrev pub unmet : ℕ
 unmet = 2_147_483_648
 
 -- what is known of a vertex when its bucket is counted: how many of its edges are taken, and what its count waits for
-unfoldable pub takenAt : (k weight size count read : ℕ) → ℕ
-takenAt k weight size count read = cond (eqb count k) (cond (eqb k 1) 1 (cond (eqb weight 0) read 0)) (weight + size)
+abbrev pub known : (taken pending : ℕ) → Known
+known t p = record { taken = t; pending = p }
 
-unfoldable pub pendingAt : (k weight count read : ℕ) → ℕ
-pendingAt k weight count read = cond (eqb count k) (cond (eqb k 1) 0 (cond (eqb weight 0) 0 (read + unmet))) 0
+unfoldable pub knownAt : (k weight size count read : ℕ) → Known
+knownAt k weight size count read =
+    cond (eqb count k) (cond (eqb k 1) (known 1 0) (cond (eqb weight 0) (known read 0) (known 0 (read + unmet)))) (known (weight + size) 0)
 
 pub record CountedAt (k : ℕ) (block : List ℕ) (y weight : ℕ) (lower : List ℕ) (count taken pending : ℕ) : Type 0 where
   pub read : ℕ
   pub met : MetAt k block y weight lower count read
-  pub takes : taken ≡ takenAt k weight (length lower) count read
-  pub waits : pending ≡ pendingAt k weight count read
+  pub so-known : known taken pending ≡ knownAt k weight (length lower) count read
 
 -- What counting is given: buckets of lower neighbours, the weight and the block of each vertex, and a stamp for each block.
 pub record Bucketed (ends lower weights block : List ℕ) (k : ℕ) (counts taken pending stamps : List ℕ) : Type 0 where

@@ -7,7 +7,7 @@ use table::wide;
 ghost use mathlib.Core.Path.{_≡_};
 ghost use Prim.Native.Nat.{_+_, _≤_};
 ghost use Rattle.refusal.specs.Limits.{maxEdges};
-ghost use Rattle.meeting.specs.Steps.{Meets, Counts, takenAt, pendingAt, Bucketed, Counted};
+ghost use Rattle.meeting.specs.Steps.{Meets, Counts, knownAt, Bucketed, Counted};
 
 // What the count at a vertex found: how many different blocks, and how many of its lower neighbours it read.
 struct Met {
@@ -15,7 +15,14 @@ struct Met {
     read: usize,
 }
 
-// Counts the different blocks that vertex y meets, by its weight and its lower neighbours, and ends as soon as it has met them all.
+// How many of its edges a vertex is known to take, and what its count waits for besides, 0 for nothing.
+struct Known {
+    taken: u32,
+    pending: u32,
+}
+
+// Counts the different blocks that vertex y meets, by its weight and its lower neighbours, and ends as soon as it has met them all. If an
+// edge leads up the own block is met first, wherever that edge stands in the list.
 fn count_at(y: u32, weight: u32, lower: &[u32], block: &[u32], all: u32, stamps: &mut [u32]) -> Met
     requires { ⌜ Meets y all (now lower) (now block) (now stamps) ⌝ }
     ensures { λ r. ⌜ Counts all (now (block .entry)) y weight (now (lower .entry)) (now (stamps .exit)) r ⌝ }
@@ -33,40 +40,29 @@ fn count_at(y: u32, weight: u32, lower: &[u32], block: &[u32], all: u32, stamps:
     Met { count, read: i }
 }
 
-// How many of a vertex's edges the count is known to take, by its weight and the number of its lower neighbours: all if it did not meet
-// all blocks; 1 if there is but one; and where none leads up those that it read. A vertex that waits starts from 0.
-fn taken_at(weight: u32, size: usize, count: u32, read: usize, all: u32) -> u32
+// What is known of a vertex when its bucket is counted, by its weight and the number of its lower neighbours. If it did not meet all
+// blocks, all of its edges are taken; if there is but one block, the first; if no edge leads up, those that were read. Else it waits for
+// as many edges to lower neighbours as were read, and for one of its own block, and has taken none yet.
+fn known_at(weight: u32, size: usize, count: u32, read: usize, all: u32) -> Known
     requires { ⌜ (weight ≤ maxEdges) × (size ≤ maxEdges) × (read ≤ maxEdges) ⌝ }
-    ensures { λ r. ⌜ r ≡ takenAt all weight size count read ⌝ }
+    ensures { λ r. ⌜ r ≡ knownAt all weight size count read ⌝ }
 {
     if count != all {
-        return weight + narrow(size);
+        let taken = weight + narrow(size);
+        return Known { taken, pending: 0 };
     }
     if all == 1 {
-        return 1;
+        return Known {
+            taken: 1,
+            pending: 0,
+        };
     }
+    let taken = narrow(read);
     if weight == 0 {
-        return narrow(read);
+        return Known { taken, pending: 0 };
     }
-    0
-}
-
-// What a vertex waits for, if it has met all blocks, more than one, and some edge leads up: the lower neighbours that were read, and an
-// edge of its own block.
-fn pending_at(weight: u32, count: u32, read: usize, all: u32) -> u32
-    requires { ⌜ read ≤ maxEdges ⌝ }
-    ensures { λ r. ⌜ r ≡ pendingAt all weight count read ⌝ }
-{
-    if count != all {
-        return 0;
-    }
-    if all == 1 {
-        return 0;
-    }
-    if weight == 0 {
-        return 0;
-    }
-    narrow(read) + UNMET
+    let pending = taken + UNMET;
+    Known { taken: 0, pending }
 }
 
 // Counts bucket after bucket.
@@ -91,8 +87,9 @@ pub fn count_buckets(
         let weight = weights[y];
         let met = count_at(y as u32, weight, &lower[at..end], block, all, stamps);
         block_count[y] = met.count;
-        edges_taken[y] = taken_at(weight, end - at, met.count, met.read, all);
-        pending[y] = pending_at(weight, met.count, met.read, all);
+        let known = known_at(weight, end - at, met.count, met.read, all);
+        edges_taken[y] = known.taken;
+        pending[y] = known.pending;
         at = end;
         y += 1;
     }

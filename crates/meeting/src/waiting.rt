@@ -39,6 +39,16 @@ fn next(pending: u32, down: bool, own: bool) -> u32
     needed + UNMET
 }
 
+// 1 if something is waited for, else 0.
+fn waits(pending: u32) -> u32
+    ensures { λ r. ⌜ r ≡ waiting pending ⌝ }
+{
+    if pending == 0 {
+        return 0;
+    }
+    1
+}
+
 // Takes an edge at one of its ends, x, if that waits; `low` is the edge's lower end, whose block is the edge's. Answers 1 if x waits no
 // longer, else 0.
 fn pass(x: u32, low: u32, block: &[u32], pending: &mut [u32], edges_taken: &mut [u32]) -> u32
@@ -53,20 +63,7 @@ fn pass(x: u32, low: u32, block: &[u32], pending: &mut [u32], edges_taken: &mut 
     let after = next(before, x != low, block[at] == block[wide(low)]);
     edges_taken[at] += 1;
     pending[at] = after;
-    if after == 0 {
-        return 1;
-    }
-    0
-}
-
-// 1 if something is waited for, else 0.
-fn waits(pending: u32) -> u32
-    ensures { λ r. ⌜ r ≡ waiting pending ⌝ }
-{
-    if pending == 0 {
-        return 0;
-    }
-    1
+    1 - waits(after)
 }
 
 // How many vertices wait.

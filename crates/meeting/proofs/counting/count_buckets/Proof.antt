@@ -55,11 +55,11 @@ mul-block-count c = omega (arith, c .before .before .before .before .before .bef
 slice-write-block-count : tie.Need-slice-write-block-count Inv-loop μ-loop
 slice-write-block-count c = omega (arith, c .before .before .before .before .before .before .before .before .before .loop .inv .counts-long)
 
-sub-taken-at : tie.Need-sub-taken-at Inv-loop μ-loop
-sub-taken-at c = turn-order (c .before .before .before .before .before .before .before .before .before .before .before .before .before .before .before .before .before .before .pre) (c .before .before .before .before .before .before .before .before .before .loop .inv) (c .before .before .before .before .before .before .before .before .loop-test .taken) (c .before .before .before .before .before .before .wide .ensures)
+sub-known-at : tie.Need-sub-known-at Inv-loop μ-loop
+sub-known-at c = turn-order (c .before .before .before .before .before .before .before .before .before .before .before .before .before .before .before .before .before .before .pre) (c .before .before .before .before .before .before .before .before .before .loop .inv) (c .before .before .before .before .before .before .before .before .loop-test .taken) (c .before .before .before .before .before .before .wide .ensures)
 
-taken-at-requires : tie.Need-taken-at-requires Inv-loop μ-loop
-taken-at-requires c κs = (c .before .before .before .before .before .before .before .before .before .before .before .before .before .before .before .before .before .before .pre .light _ (c .before .before .before .before .before .before .before .before .loop-test .taken), turn-short (c .before .before .before .before .before .before .before .before .before .before .before .before .before .before .before .before .before .before .pre) (c .before .before .before .before .before .before .before .before .before .loop .inv) (c .before .before .before .before .before .before .before .before .loop-test .taken) (c .before .before .before .before .before .before .wide .ensures), turn-read (c .before .before .before .before .before .before .before .before .before .before .before .before .before .before .before .before .before .before .pre) (c .before .before .before .before .before .before .before .before .before .loop .inv) (c .before .before .before .before .before .before .before .before .loop-test .taken) (c .before .before .before .before .before .before .wide .ensures) (c .before .before .count-at .ensures))
+known-at-requires : tie.Need-known-at-requires Inv-loop μ-loop
+known-at-requires c κs = (c .before .before .before .before .before .before .before .before .before .before .before .before .before .before .before .before .before .before .pre .light _ (c .before .before .before .before .before .before .before .before .loop-test .taken), turn-short (c .before .before .before .before .before .before .before .before .before .before .before .before .before .before .before .before .before .before .pre) (c .before .before .before .before .before .before .before .before .before .loop .inv) (c .before .before .before .before .before .before .before .before .loop-test .taken) (c .before .before .before .before .before .before .wide .ensures), turn-read (c .before .before .before .before .before .before .before .before .before .before .before .before .before .before .before .before .before .before .pre) (c .before .before .before .before .before .before .before .before .before .loop .inv) (c .before .before .before .before .before .before .before .before .loop-test .taken) (c .before .before .before .before .before .before .wide .ensures) (c .before .before .count-at .ensures))
 
 mul-edges-taken : tie.Need-mul-edges-taken Inv-loop μ-loop
 mul-edges-taken c = omega (arith, c .before .before .before .before .before .before .before .before .before .before .loop .inv .taken-long, c .before .before .before .before .before .before .before .before .before .before .before .before .before .before .before .before .before .before .before .pre .buckets .few)
@@ -67,14 +67,11 @@ mul-edges-taken c = omega (arith, c .before .before .before .before .before .bef
 slice-write-edges-taken : tie.Need-slice-write-edges-taken Inv-loop μ-loop
 slice-write-edges-taken c = omega (arith, c .before .before .before .before .before .before .before .before .before .before .loop .inv .taken-long)
 
-pending-at-requires : tie.Need-pending-at-requires Inv-loop μ-loop
-pending-at-requires c κs = turn-read (c .before .before .before .before .before .before .before .before .before .before .before .before .before .before .before .before .before .before .before .pre) (c .before .before .before .before .before .before .before .before .before .before .loop .inv) (c .before .before .before .before .before .before .before .before .before .loop-test .taken) (c .before .before .before .before .before .before .before .wide .ensures) (c .before .before .before .count-at .ensures)
-
 mul-pending : tie.Need-mul-pending Inv-loop μ-loop
-mul-pending c = omega (arith, c .before .before .before .before .before .before .before .before .before .before .before .loop .inv .pending-long, c .before .before .before .before .before .before .before .before .before .before .before .before .before .before .before .before .before .before .before .before .pre .buckets .few)
+mul-pending c = omega (arith, c .before .before .before .before .before .before .before .before .before .before .loop .inv .pending-long, c .before .before .before .before .before .before .before .before .before .before .before .before .before .before .before .before .before .before .before .pre .buckets .few)
 
 slice-write-pending : tie.Need-slice-write-pending Inv-loop μ-loop
-slice-write-pending c = omega (arith, c .before .before .before .before .before .before .before .before .before .before .before .loop .inv .pending-long)
+slice-write-pending c = omega (arith, c .before .before .before .before .before .before .before .before .before .before .loop .inv .pending-long)
 
 add-y : tie.Need-add-y Inv-loop μ-loop
 add-y c = search needs
@@ -83,7 +80,7 @@ loop-less : tie.Need-loop-less Inv-loop μ-loop
 loop-less c = search needs
 
 loop-again : tie.Need-loop-again Inv-loop μ-loop
-loop-again c = turn-step (c .before .before .before .before .before .before .before .before .before .before .before .before .before .before .before .before .before .before .before .before .pre) (c .before .before .before .before .before .before .before .before .before .before .before .loop .inv) (c .before .before .before .before .before .before .before .before .before .before .loop-test .taken) (c .before .before .before .before .before .before .before .before .wide .ensures) (c .before .before .before .before .count-at .ensures) (c .before .before .before .before .count-at .kept .1 .1 .1 .1 .1 .0) (c .before .taken-at .ensures) (c .pending-at .ensures)
+loop-again c = turn-step (c .before .before .before .before .before .before .before .before .before .before .before .before .before .before .before .before .before .before .before .pre) (c .before .before .before .before .before .before .before .before .before .before .loop .inv) (c .before .before .before .before .before .before .before .before .before .loop-test .taken) (c .before .before .before .before .before .before .before .wide .ensures) (c .before .before .before .count-at .ensures) (c .before .before .before .count-at .kept .1 .1 .1 .1 .1 .0) (c .known-at .ensures)
 
 same-length : tie.Need-same-length Inv-loop μ-loop
 same-length c = c .before .loop .inv .counts-long ∙ sym (c .before .before .before .before .before .before .before .before .before .before .pre .counts-long)
@@ -120,11 +117,10 @@ count-buckets-spec =
     count-at-requires
     mul-block-count
     slice-write-block-count
-    sub-taken-at
-    taken-at-requires
+    sub-known-at
+    known-at-requires
     mul-edges-taken
     slice-write-edges-taken
-    pending-at-requires
     mul-pending
     slice-write-pending
     add-y

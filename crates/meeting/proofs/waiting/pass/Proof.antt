@@ -1,4 +1,5 @@
-use Rattle.meeting.proofs.Passing.{pass-not, pass-fits, pass-last, pass-more}
+use native.Mathlib.Omega.{arith}
+use Rattle.meeting.proofs.Passing.{waiting-le, pass-not, pass-fits, pass-on}
 use borrow.Author.Needs.{needs}
 use Rattle.meeting.proofs.waiting.pass.Statement.{statement}
 use Rattle.meeting.proofs.waiting.pass.Tie as tie
@@ -51,6 +52,12 @@ mul-pending c = search needs
 slice-write-pending : tie.Need-slice-write-pending
 slice-write-pending c = search needs
 
+waits-requires : tie.Need-waits-requires
+waits-requires c κs = search needs
+
+sub-result : tie.Need-sub-result
+sub-result c = omega (arith, c .waits .ensures, waiting-le (c .before .before .next .result))
+
 same-length : tie.Need-same-length
 same-length c = search needs
 
@@ -58,16 +65,7 @@ same-length-2 : tie.Need-same-length-2
 same-length-2 c = search needs
 
 returns-2 : tie.Need-returns-2
-returns-2 c = pass-last _ _ _ _ _ (c .before .before .before .before .before .before .before .before .wide .ensures) (c .before .before .before .before .wide2 .ensures) (c .before .before .before .before .before .before .if1 .left) (c .before .before .next .ensures) (c .if2 .taken)
-
-same-length-3 : tie.Need-same-length-3
-same-length-3 c = search needs
-
-same-length-4 : tie.Need-same-length-4
-same-length-4 c = search needs
-
-returns-3 : tie.Need-returns-3
-returns-3 c = pass-more _ _ _ _ _ (c .before .before .before .before .before .before .before .before .wide .ensures) (c .before .before .before .before .wide2 .ensures) (c .before .before .before .before .before .before .if1 .left) (c .before .before .next .ensures) (c .if2 .left)
+returns-2 c = pass-on _ _ _ _ _ (c .before .before .before .before .before .before .before .before .wide .ensures) (c .before .before .before .before .wide2 .ensures) (c .before .before .before .before .before .before .if1 .left) (c .before .before .next .ensures) (c .waits .ensures)
 
 pub pass-spec : {M : Type 1} → statement M
 pass-spec =
@@ -89,9 +87,8 @@ pass-spec =
     slice-write-edges-taken
     mul-pending
     slice-write-pending
+    waits-requires
+    sub-result
     same-length
     same-length-2
-    returns-2
-    same-length-3
-    same-length-4
-    returns-3)
+    returns-2)
