@@ -74,12 +74,13 @@ static void divide(struct tables *t, size_t n, uint32_t limit, uint32_t blocks)
          "divide refused");
 }
 
-static void report(const struct net *net, struct tables *t, uint32_t limit, uint32_t blocks, uint64_t *bound, uint64_t *volume)
+static void report(const struct net *net, struct tables *t, uint32_t limit, uint32_t blocks, struct figures *its)
 {
     size_t n = net->vertices, m = net->edges;
     must(niqastul_report(t->parents, n, t->weights, n, limit, blocks, net->list, 2 * m, t->carried, n, t->top, n, t->block, n,
                          t->block_loads, blocks, t->edge_blocks, m, t->reach, n, t->block_count, n, t->edges_taken, n, t->parents2, n,
-                         t->weights2, n, t->ends, n, t->jump, n, t->lower, n + m, bound, volume) == 0,
+                         t->weights2, n, t->ends, n, t->jump, n, t->lower, n + m, &its->bound, &its->volume, &its->quotient,
+                         &its->remainder) == 0,
          "report refused");
 }
 
@@ -193,11 +194,14 @@ static void measure(const char *family, const struct net *net)
         TIME(counted, , counts = suitesparse_counts(net, parents, &t));
         for (int k = 0; k < 2; k++) {
             uint32_t limit = limit_for(reported_blocks[k], t.weights, n);
-            uint64_t bound, volume, plain_bound, plain_volume;
-            TIME(plain_reported[k], , plain_report(net, limit, reported_blocks[k], &t, &plain_bound, &plain_volume));
+            struct figures its, plain_its;
+            TIME(plain_reported[k], , plain_report(net, limit, reported_blocks[k], &t, &plain_its));
             exchange(&plain_count, &t.block_count), exchange(&plain_taken, &t.edges_taken);
-            TIME(reported[k], , report(net, &t, limit, reported_blocks[k], &bound, &volume));
-            must(bound == plain_bound && volume == plain_volume && volume <= bound, "the library and plain C disagree on a report");
+            TIME(reported[k], , report(net, &t, limit, reported_blocks[k], &its));
+            must(its.bound == plain_its.bound && its.volume == plain_its.volume && its.volume <= its.bound,
+                 "the library and plain C disagree on a report");
+            must(its.quotient == plain_its.quotient && its.remainder == plain_its.remainder,
+                 "the library and plain C disagree on the even share");
             must(!memcmp(plain_count, t.block_count, 4 * n), "the library and plain C disagree on block counts");
             must(!memcmp(plain_taken, t.edges_taken, 4 * n), "the library and plain C disagree on the edges taken");
             for (size_t x = 0; x < n; x++)

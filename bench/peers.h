@@ -19,6 +19,12 @@ struct tables {
     uint32_t *block_count, *edges_taken;
 };
 
+/* The figures of a report: bound, volume and the even share. */
+struct figures {
+    uint64_t bound, volume;
+    uint32_t quotient, remainder;
+};
+
 /* SuiteSparse: compressed columns of the upper triangle from the list, then cs_etree. The columns are counted and filled here, into
  * tables that exist already; `by_triplets` goes through cs_compress instead, as its manual has it. Each answers the parents,
  * allocated, -1 for none. */
@@ -40,7 +46,7 @@ void plain_read(size_t n, struct tables *t);
 /* Divides the net in parents and weights: children sorted by what they carry where some must be cut, blocks in a heap. */
 void plain_divide(size_t n, uint32_t limit, uint32_t blocks, struct tables *t);
 /* Grows the net of the edges, divides it, and counts reaches, blocks and the edges taken for these: what a report does, less refusals and
- * comparison. The figures go to bound and volume. */
-void plain_report(const struct net *net, uint32_t limit, uint32_t blocks, struct tables *t, uint64_t *bound, uint64_t *volume);
+ * comparison. */
+void plain_report(const struct net *net, uint32_t limit, uint32_t blocks, struct tables *t, struct figures *its);
 
 #endif

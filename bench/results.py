@@ -32,7 +32,7 @@ the same parents. Adding tells where the forest moved; `compare all` is what a h
 compares all parents with a copy from before and copies them anew, and has to find the same rank. Dividing is measured with a
 limit of a quarter of a block's even share of the total, or the largest weight. A report grows the net of the edges and compares
 it, counts reaches, divides, and counts the blocks of each vertex along its edges, in the order of the list, until all are met. All
-block counts and edges taken have to be those of plain C, which lays the blocks of each vertex's edges side by side by a counting
+block counts, edges taken and the even share have to be those of plain C, which lays the blocks of each vertex's edges side by side by a counting
 sort of both ends. SuiteSparse's time there is that of `cs_etree` with its columns, `cs_post` and `cs_counts`, whose column counts
 have to be the reaches. An index is built of the list in two halves; `plain C` is there the
 counting sort without refusals, `cs_compress` SuiteSparse's compressed columns of each edge as two triplets, which have to be

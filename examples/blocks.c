@@ -1,6 +1,6 @@
 /* From an order and an edge file to blocks: blocks marks.ord ties.rec want.rec
  * The files hold little-endian 32-bit numbers: vertices, two vertices to an edge, the limit and the number of blocks. A line for each
- * rank: rank, vertex, parent, weight, reach, top, block, block count; then bound and volume.
+ * rank: rank, vertex, parent, weight, reach, top, block, block count; then bound, volume and even share (quotient, remainder).
  *
  *     cc blocks.c $(pkg-config --cflags --libs niqastul) -o blocks        after make install */
 #include <inttypes.h>
@@ -57,13 +57,14 @@ int main(int count, char **files)
     uint32_t *reach = table(n), *block_count = table(n), *edges_taken = table(n), *its_parents = table(n), *its_weights = table(n);
     uint32_t moved; /* where the forest moved: of use to who has read it before */
     uint64_t bound, volume;
+    uint32_t quotient, remainder;
 
     accept(niqastul_relabel(order, n, edges, m, ranks, m, ends, n));
     accept(niqastul_start(parents, n, weights, n));
     accept(niqastul_add(parents, n, weights, n, ranks, m, ends, n, jump, n, lower, lower_length, &moved));
     accept(niqastul_report(parents, n, weights, n, limit, k, ranks, m, carried, n, top, n, block, n, loads, k, edge_blocks, m / 2,
                            reach, n, block_count, n, edges_taken, n, its_parents, n, its_weights, n, ends, n, jump, n,
-                           lower, lower_length, &bound, &volume));
+                           lower, lower_length, &bound, &volume, &quotient, &remainder));
 
     for (size_t rank = 0; rank < n; rank++) {
         printf("%zu %u ", rank, order[rank]);
@@ -73,6 +74,6 @@ int main(int count, char **files)
             printf("%u", parents[rank]);
         printf(" %u %u %u %u %u\n", weights[rank], reach[rank], top[rank], block[rank], block_count[rank]);
     }
-    printf("bound %" PRIu64 " volume %" PRIu64 "\n", bound, volume);
+    printf("bound %" PRIu64 " volume %" PRIu64 " share %u %u\n", bound, volume, quotient, remainder);
     return 0;
 }

@@ -182,6 +182,8 @@ uint32_t niqastul_divide(const uint32_t *parents, size_t parents_length,
  *           ends [n], jump [n], lower [niqastul_add_lower(n, m)]      work; end as zeros
  *           *bound             the sum of the reaches of the vertices that are cut off
  *           *volume            the sum of (block_count - 1) over the vertices with an edge, never above the bound
+ *           *quotient, *remainder     the even share: the total of the weights divided by blocks. quotient * blocks + remainder is
+ *                              the total, and remainder is below blocks
  *   refused 1, 2 (block_loads against the number of blocks as given), 8, 30 (of the net), 4 or 5 at the first faulty edge,
  *           20 (more than NIQASTUL_MAX_EDGES edges), 22, 23
  * The exception: refused with 23, it leaves the net of the edges in compared_parents and compared_weights, and zeros in the work
@@ -205,7 +207,9 @@ uint32_t niqastul_report(const uint32_t *parents, size_t parents_length,
                          uint32_t *jump, size_t jump_length,
                          uint32_t *lower, size_t lower_length,
                          uint64_t *bound,
-                         uint64_t *volume);
+                         uint64_t *volume,
+                         uint32_t *quotient,
+                         uint32_t *remainder);
 
 /* INDEX an edge list, given in two parts, an old list and an added one: the index is that of the old edges followed by the added ones,
  * as one list would give it. Each edge stands in the runs of both its ends. No index of the old edges is needed, and what the two

@@ -60,6 +60,7 @@ def report(rng, n):
     given["limit"] = max(2, max(given["weights"])) + rng.randrange(3)
     given |= {"edges": nets.flat(ties), "edge_blocks": nets.garbage(rng, len(ties))}
     given |= {"bound": [rng.getrandbits(64)], "volume": [rng.getrandbits(64)]}
+    given |= {"quotient": nets.garbage(rng, 1), "remainder": nets.garbage(rng, 1)}
     return given | {name: nets.garbage(rng, n) for name in ("reach", "block_count", "edges_taken", "compared_parents", "compared_weights")}
 
 

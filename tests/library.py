@@ -109,7 +109,7 @@ CALLS = [
     call("read", "parents! weights! bytes", calls.read),
     call("divide", "parents weights limit# blocks# carried! top! block! block_loads!", calls.divide),
     call("report", "parents weights limit# blocks# edges carried! top! block! block_loads! edge_blocks! reach! block_count! "
-         "edges_taken! compared_parents! compared_weights! ends* jump* lower* bound@ volume@", calls.report,
+         "edges_taken! compared_parents! compared_weights! ends* jump* lower* bound@ volume@ quotient@ remainder@", calls.report,
          lambda g: work_of(g, len(g["parents"]) + len(g["edges"]) // 2)),
     call("index", "old_edges added starts! neighbours!", neighbours.index),
     call("query", "starts neighbours rank# first@ count@", neighbours.query),

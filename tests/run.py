@@ -16,6 +16,7 @@ import test_division
 import test_blocks
 import test_limits
 import test_taken
+import test_share
 import test_bindings
 import test_commands
 import test_adding

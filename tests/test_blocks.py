@@ -31,7 +31,7 @@ def whole_case_run(t):
     marks, ties = file_of(*ORDER), file_of(*TIES)
     t.same(run(t, marks, ties, file_of(4, 2)), WHOLE_CASE)
     t.same(run(t, marks, ties, file_of(2, 2)), "refused 22\n")
-    t.true(run(t, marks, ties, file_of(4, 1)).endswith("volume 0\n"))
+    t.true(run(t, marks, ties, file_of(4, 1)).endswith("volume 0 share 6 0\n"))
     for missing in range(3):
         files = [marks, ties, file_of(4, 2)]
         files[missing] = None

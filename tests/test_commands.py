@@ -223,7 +223,7 @@ def whole_or_not(t):
             os.rename(folder.path / "out", folder.path / words[0])
 
 
-@test(at_least=27)
+@test(at_least=28)
 def command_line(t):
     """As a program: help and its exit status, usage, what is printed where."""
     def ran(*words, **environment):
@@ -235,6 +235,8 @@ def command_line(t):
     t.true(status == 0 and all(word in out for word in words), out)
     status, out, _ = ran("picture", "-h")
     t.true(status == 0 and "[places.txt]" in out and "ringed" in out, out)
+    status, out, _ = ran("split", "-h")
+    t.true(status == 0 and "bound, volume, share" in out, out)
     for command, link in (("add", "net.link"), ("join", "a.link")):
         status, out, _ = ran(command, "-h")
         t.true(status == 0 and f"than in {link}:" in out and "`none moved`" in out, out)

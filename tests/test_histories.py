@@ -85,20 +85,20 @@ class History:
             accepted, _ = self.call(name, net, bytes=self.files[file])
             self.book.read(net, file, accepted)
         elif name in ("divide", "report"):
-            self.divide(name, net)
+            self.divide(name, net, self.rng.randrange(9), self.rng.randrange(4))
         elif name == "index":
             self.index(net)
         else:
             PRESENT[name].run(self.t, inputs.accepted(self.rng, name, 4))
 
-    def divide(self, name, net):
-        """Divides a net, or reports on it with its own list if it has one."""
-        n, k, ties = len(self.nets[net][0]), self.rng.randrange(4), self.book.nets.get(net)
+    def divide(self, name, net, limit, k):
+        """Divides a net, or reports on it with its own list if it has one; answers what `call` does."""
+        n, ties = len(self.nets[net][0]), self.book.nets.get(net)
         flat = self.edges(net) if ties is None else nets.flat(ties)
-        others = {"limit": self.rng.randrange(9), "blocks": k, "block_loads": nets.garbage(self.rng, k)}
+        others = {"limit": limit, "blocks": k, "block_loads": nets.garbage(self.rng, k)}
         others |= {"edges": flat, "edge_blocks": nets.garbage(self.rng, len(flat) // 2)}
         others |= {table: nets.garbage(self.rng, n) for table in PRESENT[name].named("!") if table not in others}
-        self.call(name, net, **others)
+        return self.call(name, net, **others)
 
     def index(self, net):
         """Indexes a net's own list if it has one, and asks for a rank; the net's list may have come in parts."""

@@ -173,16 +173,23 @@ def longest_path(t):
     t.same((set(after["top"]), set(after["block"]), list(after["block_loads"])), ({last}, {0}, [last]))
 
 
+def a_full_list():
+    """16,000,000 edges, half of them at each of two vertices under a third."""
+    half = calls.MAX_TIES // 2
+    return array("I", [0, 2]) * half + array("I", [2, 1]) * half, (array("I", [2, 2, ABSENT]), array("I", [half, half, 0]))
+
+
 def figures(after):
-    return [after["bound"][0], after["volume"][0]]
+    """Bound and volume, and the even share, quotient and remainder."""
+    return [after[cell][0] for cell in PRESENT["report"].named("@")]
 
 
 def report(net, edges, limit, blocks):
     """Reports on a net with new tables; answers the number and the tables by name."""
     n = len(net[0])
     of_n = ("carried", "top", "block", "reach", "block_count", "edges_taken", "compared_parents", "compared_weights")
-    tables = {table: array("I", [7]) * n for table in of_n}
-    tables |= {"block_loads": zeros(blocks), "edge_blocks": zeros(len(edges) // 2), "bound": array("Q", [7]), "volume": array("Q", [7])}
+    tables = {table: array("I", [7]) * n for table in of_n} | {"block_loads": zeros(blocks), "edge_blocks": zeros(len(edges) // 2)}
+    tables |= {cell: array(CODES.get(cell, "I"), [7]) for cell in PRESENT["report"].named("@")}
     return run("report", parents=net[0], weights=net[1], limit=limit, blocks=blocks, edges=edges, **tables), tables
 
 
@@ -193,7 +200,7 @@ def reported_star(t):
     limit, last = 3, MOST - 1
     number, after = report(net, edges, limit, 2)
     t.same(number, 0)
-    t.same(figures(after), [last - limit, 1], "bound and volume")
+    t.same(figures(after), [last - limit, 1, last // 2, 1])
     t.true(after["edge_blocks"] == after["block"][:last], "an edge belongs to the block of its lower end")
     t.true(after["reach"] == net[1], "reaches")
     t.true(after["block_count"] == array("I", [1]) * last + array("I", [2]), "block counts")
@@ -201,7 +208,7 @@ def reported_star(t):
     t.true((after["compared_parents"], after["compared_weights"]) == net, "the net of the edges")
     edges[0], edges[-2] = last - 1, 0
     number, after = report(net, edges, limit, 2)
-    t.same((number, figures(after)), (0, [last - limit, 1]), "two edges exchanged")
+    t.same((number, figures(after)), (0, [last - limit, 1, last // 2, 1]), "two edges exchanged")
     edges[0] = 1
     t.same(report(net, edges, limit, 2)[0], 23, "one edge is another")
 
@@ -210,18 +217,17 @@ def reported_star(t):
 def longest_report(t):
     """A reported list of 16,000,000 edges is accepted; one more is 20, unless an edge of it is faulty."""
     half = calls.MAX_TIES // 2
-    net = array("I", [2, 2, ABSENT]), array("I", [half, half, 0])
-    edges = array("I", [0, 2]) * half + array("I", [2, 1]) * half
+    edges, net = a_full_list()
     number, after = report(net, edges, half, 2)
     t.same(number, 0)
-    t.same(figures(after), [1, 1], "bound and volume")
+    t.same(figures(after), [1, 1, half, 0])
     t.true(after["edge_blocks"] == zeros(half) + array("I", [1]) * half, "edge blocks")
     t.same([list(after[name]) for name in ("reach", "block_count", "block_loads")], [[1, 1, 0], [1, 1, 2], [half, half]])
     t.same(list(after["edges_taken"]), [half, half, half + 1], "the last vertex meets the second block in the middle of the list")
     t.true((after["compared_parents"], after["compared_weights"]) == net, "the net of the edges")
     edges += array("I", [1, 2])
     number, after = report(net, edges, half, 2)
-    t.same((number, figures(after)), (20, [7, 7]))
+    t.same((number, figures(after)), (20, [7] * 4))
     t.same([list(after[name]) for name in ("block_count", "edges_taken", "compared_parents")], [[7, 7, 7]] * 3, "as they were")
     edges[-1] = 1
     t.same(report(net, edges, half, 2)[0], 5, "the last edge is a loop")

@@ -74,15 +74,15 @@ def report(parents, weights, numbers, sizes):
     number, left = work(len(parents), len(parents) + len(edges) // 2, refusal, [n, n, lower], changed=(0, 23))
     if number != refusal:
         return number, *tables, *left
-    *answer, bound, volume = calls.report(parents, weights, limit, k, edges, *tables)
-    return (number if number else (bound, volume)), *answer[1:], *left
+    *answer, bound, volume, quotient, remainder = calls.report(parents, weights, limit, k, edges, *tables)
+    return (number if number else (bound, volume, quotient, remainder, sum(weights))), *answer[1:], *left
 
 
 def answer_text(answer):
     if isinstance(answer, str):
         return "accepted, " + answer
     if isinstance(answer, tuple):
-        return "accepted, bound %d, volume %d" % answer
+        return "accepted, bound %d, volume %d, share %d %d, sum %d" % answer
     return f"refused {answer}" if answer else "accepted"
 
 

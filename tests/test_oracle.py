@@ -1,5 +1,5 @@
-"""The oracle itself: document 01's nets on paper, its whole case, the laws that the documents state, and runs, moved forests and ties
-taken worked by hand."""
+"""The oracle itself: document 01's nets on paper, its whole case, the laws that the documents state, and runs, moved forests, ties
+taken and even shares worked by hand."""
 
 import random
 
@@ -40,7 +40,7 @@ WHOLE_CASE = """\
 3 2 4 0 1 5 1 1
 4 4 5 0 1 5 1 2
 5 5 - 0 0 5 1 1
-bound 2 volume 1
+bound 2 volume 1 share 3 0
 """
 
 
@@ -55,9 +55,9 @@ def whole_case(t):
 
     t.same(run(4, 2), WHOLE_CASE)
     t.same(run(2, 2), "refused 22\n")
-    t.same(run(4, 1).split()[-1], "0", "volume with one block")
+    t.true(run(4, 1).endswith("\nbound 2 volume 0 share 6 0\n"), "volume with one block")
     t.same(run(4, 2, marks=b""), "refused 1\n")
-    t.true(run(4, 2, ties=b"").endswith("\nbound 0 volume 0\n"))
+    t.true(run(4, 2, ties=b"").endswith("\nbound 0 volume 0 share 0 0\n"))
     _, flat = calls.translate(ORDER, TIES, TIES)
     parents, loads = net_of(6, list(zip(flat[0::2], flat[1::2])))
     t.same(calls.cutting(parents, loads, 3)[1], {0}, "the only cut with B = 3")
@@ -68,11 +68,11 @@ def whole_case(t):
     t.same(run(4, 2, ties=file_of(7, 7)), "refused 4\n", "4 before 5")
 
 
-@test(at_least=18_000)
+@test(at_least=20_000)
 def laws(t):
-    """What document 01 claims besides: order of ties, joined parts, ends one above the other, block loads, volume and bound; that a
-    reach is the number of higher neighbours in the game; and that parents only fall, so that of several calls the lowest answer is
-    where the forest moved in all."""
+    """What the documents claim besides: order of ties, joined parts, ends one above the other, block loads, volume and bound, the even
+    share; that a reach is the number of higher neighbours in the game; and that parents only fall, so that of several calls the lowest
+    answer is where the forest moved in all."""
     for seed in range(2000):
         rng = random.Random(seed)
         n = rng.randrange(1, 14)
@@ -95,6 +95,8 @@ def laws(t):
         t.true(k * max(block_loads) <= sum(loads) + (k - 1) * limit, "even blocks", seed)
         counts = calls.block_counts_of(n, ties, calls.tie_blocks_of(ties, block))
         t.true(calls.volume_of(counts) <= calls.bound_of(parents, ties, tops), "volume and bound", seed)
+        quotient, remainder = calls.share_of(loads, k)
+        t.true(quotient * k + remainder == sum(loads) and remainder < k, "even share", seed)
 
 
 def higher_neighbours(n, ties):
@@ -164,4 +166,13 @@ def taken_by_hand(t):
         lent = [[9] * length for length in (6, 6, 6, k, 6, 6, 6, 6, 6, 6)]
         t.same(calls.report(parents, loads, limit, k, flat, *lent)[8], taken, "the whole case", limit, k)
         lent[7] = [9] * 5
-        t.same(calls.report(parents, loads, limit, k, flat, *lent), (2, *lent, None, None), "of another length")
+        t.same(calls.report(parents, loads, limit, k, flat, *lent), (2, *lent, *[None] * 4), "of another length")
+
+
+@test(at_least=11)
+def share_by_hand(t):
+    """Document 02, Paper 4: the total divided by k, with the whole quotient and the remainder. The total is that of the loads."""
+    for loads, k, share in (([0], 1, (0, 0)), ([0, 0], 1000, (0, 0)), ([6], 1, (6, 0)), ([3, 2, 1, 0], 2, (3, 0)), ([3, 2, 1], 4, (1, 2)),
+                            ([5], 6, (0, 5)), ([6], 6, (1, 0)), ([3, 4], 6, (1, 1)), ([5, 6], 6, (1, 5)), ([7, 5], 6, (2, 0)),
+                            ([8_000_000, 8_000_000], 999, (16_016, 16))):
+        t.same(calls.share_of(loads, k), share, loads, k)

@@ -41,13 +41,14 @@ def yard(t):
         t.same(folder.run("split", *THREE, "blocks"), (0, "", ""))
         t.same(folder.run("together", "marks.ord", "blocks", "net.link")[0], 0)
         summary = (folder.path / "blocks" / "summary.txt").read_text().split("\n")
-        t.same(summary[0], "marks 168  ties 326  limit 90  bound 15  volume 14")
+        t.same(summary[0], "marks 168  ties 326  limit 90  bound 15  volume 14  share 81 2")
         t.same(folder.run("picture", *THREE, "places.txt", "yard.svg"), (0, "", ""))
         t.same(folder.run("picture", *THREE, "yard-forest.svg"), (0, "", ""))
         for name in ("yard.svg", "yard-forest.svg"):
             drawn = (folder.path / name).read_text()
             t.true(drawn == (ROOT / "docs" / name).read_text(), f"docs/{name} is not what the commands draw of examples/yard.py")
-            t.true({"168 marks, 326 ties", "limit 90, 4 blocks", "bound 15", "volume 14", "block 3", "border mark"} <= set(words_of(drawn)), name)
+            words = {"168 marks, 326 ties", "limit 90, 4 blocks", "bound 15", "volume 14", "share 81, remainder 2", "block 3", "border mark"}
+            t.true(words <= set(words_of(drawn)), name)
             t.same(ringed(drawn), 13, name)
 
 
@@ -63,7 +64,8 @@ def shown(t):
             for words in ((*THREE, "places.txt", "out.svg"), (*THREE, "out.svg")):
                 t.same(folder.run("picture", *words), (0, "", ""), seed)
                 drawn = (folder.path / "out.svg").read_text()
-                t.true({f"bound {case.bound}", f"volume {case.volume}", *map(str, case.loads)} <= set(words_of(drawn)), seed)
+                figures = {f"bound {case.bound}", f"volume {case.volume}", "share %d, remainder %d" % case.share}
+                t.true(figures | set(map(str, case.loads)) <= set(words_of(drawn)), seed)
                 t.same(ringed(drawn), len(border), seed)
                 pieces = sum(path.get("d").count("M") for path in ElementTree.fromstring(drawn).iter(SVG + "path"))
                 if "places.txt" in words:

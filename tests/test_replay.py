@@ -10,17 +10,17 @@ from replay.model import Model
 HISTORIES = [(seed, 1 + seed % 12, 60) for seed in range(1, 301)] + [(1001, 40, 2500), (1002, 49, 2500), (1003, 90, 800)]
 
 
-def compiled():
-    program = ROOT / "target" / "replay"
-    source = ROOT / "tests" / "replay" / "replay.c"
-    subprocess.run(["cc", "-std=c11", "-O1", "-Wall", "-Wextra", "-Werror", f"-I{ROOT / 'include'}", source,
+def compiled(source, name):
+    """A program in C of this repository, linked with the static library."""
+    program = ROOT / "target" / name
+    subprocess.run(["cc", "-std=c11", "-O1", "-Wall", "-Wextra", "-Werror", f"-I{ROOT / 'include'}", ROOT / source,
                     ROOT / "target" / "lib" / "libniqastul.a", "-o", program], check=True)
     return program
 
 
 @test(at_least=23_000, given="report" in PRESENT)
 def replayed(t):
-    program, seen = compiled(), set()
+    program, seen = compiled("tests/replay/replay.c", "replay"), set()
     for seed, n, count in HISTORIES:
         words = [str(seed), str(n), str(count)]
         lines = subprocess.run([program, *words], check=True, capture_output=True, text=True).stdout.splitlines()

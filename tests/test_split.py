@@ -33,6 +33,7 @@ class Case:
         self.tie_blocks = calls.tie_blocks_of(ranks, self.own)
         self.bound = calls.bound_of(parents, ranks, tops)
         self.volume = calls.volume_of(calls.block_counts_of(n, ranks, self.tie_blocks))
+        self.share = calls.share_of(loads, self.k)
 
     def files(self):
         return {"marks_ord": file_of(*self.order), "ties_rec": file_of(*nets.flat(self.ties)), "want_rec": file_of(self.limit, self.k)}
@@ -88,9 +89,10 @@ def summaries(t, inside, case, seed):
     figures = {"marks": case.n, "ties": len(case.ties), "limit": case.limit, "bound": case.bound, "volume": case.volume}
     summary = json.loads((inside / "summary.json").read_text())
     rows = [{name: entry for name, entry in row.items() if name != "digest"} for row in summary.pop("blocks")]
-    t.same((summary, rows), (figures, case.rows()), seed)
-    first, names, *lines = [line.split() for line in (inside / "summary.txt").read_text().splitlines()]
+    t.same((summary, rows), (figures | {"share": dict(zip(("quotient", "remainder"), case.share))}, case.rows()), seed)
+    (*first, last, quotient, remainder), names, *lines = [line.split() for line in (inside / "summary.txt").read_text().splitlines()]
     t.same(dict(zip(first[0::2], map(int, first[1::2]))), figures, seed)
+    t.same((last, int(quotient), int(remainder)), ("share", *case.share), seed)
     t.same([dict(zip(names, map(int, line))) for line in lines], case.rows(), seed)
 
 
@@ -233,6 +235,7 @@ def most_marks(t):
             t.true((folder.path / "DIR" / f"block-{block:03}.border").read_text() == lines, "border", block)
         summary = json.loads((folder.path / "DIR" / "summary.json").read_text())
         t.same([summary[name] for name in ("marks", "ties", "bound", "volume")], [MOST, MOST - 1, MOST // long - 1, MOST // long - 1])
+        t.same(summary["share"], {"quotient": MOST // k - 1, "remainder": k - 1})
         t.same(folder.run(*TOGETHER)[0], 0)
         t.same(folder.run("picture", *THREE, "out.svg")[0], 0)
         t.true(f"of {MOST:,} marks" in (folder.path / "out.svg").read_text(), "the picture says that it is thinned")

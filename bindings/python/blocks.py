@@ -1,6 +1,6 @@
 """From an order and an edge file to blocks: python3 blocks.py marks.ord ties.rec want.rec
 The files hold little-endian 32-bit numbers: vertices, two vertices to an edge, the limit and the number of blocks. A line for each rank:
-rank, vertex, parent, weight, reach, top, block, block count; then bound and volume."""
+rank, vertex, parent, weight, reach, top, block, block count; then bound, volume and even share (quotient, remainder)."""
 
 import sys
 from array import array
@@ -14,4 +14,4 @@ net.add(edges)
 its = net.report(limit, blocks, edges)
 for rank, row in enumerate(zip(order, net.parents, net.weights, its.reach, its.division.top, its.division.block, its.block_count)):
     print(rank, *("-" if number == niqastul.ABSENT else number for number in row))
-print("bound", its.bound, "volume", its.volume)
+print("bound", its.bound, "volume", its.volume, "share", its.share.quotient, its.share.remainder)

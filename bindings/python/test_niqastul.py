@@ -3,7 +3,12 @@
 import unittest
 from array import array
 
-from niqastul import ABSENT, Index, Net, Refused, relabel
+from niqastul import ABSENT, Index, Net, Refused, Share, relabel
+
+
+def whole_case():
+    """The edges of document 01's whole case."""
+    return relabel([3, 0, 1, 2, 4, 5], [3, 1, 3, 4, 0, 2, 0, 4, 1, 5, 1, 3])
 
 
 def net(vertices, edges):
@@ -76,7 +81,7 @@ class Calls(unittest.TestCase):
 
     def test_divide(self):
         """Document 01's whole case."""
-        its = net(6, relabel([3, 0, 1, 2, 4, 5], [3, 1, 3, 4, 0, 2, 0, 4, 1, 5, 1, 3]))
+        its = net(6, whole_case())
         division = its.divide(4, 2)
         self.assertEqual([list(part) for part in division], [[3, 2, 4, 2, 2, 2], [2, 5, 2, 5, 5, 5], [0, 1, 0, 1, 1, 1], [4, 2]])
         self.assertEqual(list(its.divide(3, 1).top), [0, 5, 5, 5, 5, 5])
@@ -93,13 +98,13 @@ class Calls(unittest.TestCase):
 
     def test_report(self):
         """Document 01's whole case."""
-        edges = relabel([3, 0, 1, 2, 4, 5], [3, 1, 3, 4, 0, 2, 0, 4, 1, 5, 1, 3])
+        edges = whole_case()
         its = net(6, edges)
         report = its.report(4, 2, edges)
         self.assertEqual(report.division, its.divide(4, 2))
         tables = [[0, 0, 1, 1, 0, 0], [2, 2, 2, 1, 1, 0], [1, 1, 1, 1, 2, 1], [3, 2, 3, 1, 2, 1]]
         self.assertEqual([list(part) for part in report[1:5]], tables)
-        self.assertEqual((report.bound, report.volume), (2, 1))
+        self.assertEqual((report.bound, report.volume, report.share.quotient, report.share.remainder), (2, 1, 3, 0))
         self.assertEqual(its.report(4, 1, list(edges)).volume, 0)
         for number, arguments in ((2, (4, 2, edges[1:])), (8, (0, 2, edges)), (8, (4, 2 ** 32 + 2, edges)), (4, (4, 2, [0, 6])),
                                   (5, (4, 2, [0, 0])), (22, (2, 2, edges)), (23, (4, 2, edges[2:]))):
@@ -107,7 +112,7 @@ class Calls(unittest.TestCase):
 
     def test_edges_taken(self):
         """Vertex 2 has edges of both blocks, and which of them come first is told by the list."""
-        edges = relabel([3, 0, 1, 2, 4, 5], [3, 1, 3, 4, 0, 2, 0, 4, 1, 5, 1, 3])
+        edges = whole_case()
         its = net(6, edges)
         report = its.report(3, 2, edges)
         self.assertEqual((list(report.block_count), list(report.edges_taken)), ([1, 1, 2, 1, 2, 1], [3, 2, 2, 1, 2, 1]))
@@ -117,8 +122,18 @@ class Calls(unittest.TestCase):
         self.assertEqual(list(its.report(3, 1, edges).edges_taken), [1] * 6)
         self.assertEqual(list(Net(2).report(1, 1, []).edges_taken), [0, 0])
 
+    def test_even_share(self):
+        """The check sum is the total, be it divided by the number of blocks, with a remainder or not, or below it."""
+        edges = whole_case()
+        its = net(6, edges)
+        for blocks, quotient, remainder in ((1, 6, 0), (2, 3, 0), (4, 1, 2), (5, 1, 1), (6, 1, 0), (7, 0, 6), (1000, 0, 6)):
+            share = its.report(4, blocks, edges).share
+            self.assertEqual(share, Share(quotient, remainder, blocks))
+            self.assertEqual(share.check_sum(), sum(its.weights))
+        self.assertEqual(Net(2).report(1, 3, []).share, Share(0, 0, 3))
+
     def test_index(self):
-        edges = relabel([3, 0, 1, 2, 4, 5], [3, 1, 3, 4, 0, 2, 0, 4, 1, 5, 1, 3])
+        edges = whole_case()
         index = Index(6, edges)
         self.assertEqual([list(index.neighbours(rank)) for rank in range(6)], [[2, 4, 2], [3, 4], [0, 5, 0], [1], [0, 1], [2]])
         self.assertEqual((list(index.starts), list(index.runs)), ([0, 3, 5, 8, 9, 11, 12], [2, 4, 2, 3, 4, 0, 5, 0, 1, 0, 1, 2]))

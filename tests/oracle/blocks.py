@@ -1,4 +1,4 @@
-"""Document 01, Files: one run of the program `blocks`, from the bytes of its three files to what it prints.
+"""Document 01, Files, and document 02, Paper 4: one run of the program `blocks`, from the bytes of its three files to what it prints.
 
     python3 -m oracle.blocks DIR        prints what `blocks` has to print when it is run in DIR"""
 
@@ -52,7 +52,8 @@ def run(marks, ties, want):
     for x in range(n):
         parent = "-" if parents[x] == ABSENT else parents[x]
         lines.append(f"{x} {order[x]} {parent} {loads[x]} {reach[x]} {tops[x]} {blocks[x]} {block_counts[x]}")
-    lines.append(f"bound {calls.bound_of(parents, pairs, tops)} volume {calls.volume_of(block_counts)}")
+    quotient, remainder = calls.share_of(loads, k)
+    lines.append(f"bound {calls.bound_of(parents, pairs, tops)} volume {calls.volume_of(block_counts)} share {quotient} {remainder}")
     return "".join(line + "\n" for line in lines)
 
 

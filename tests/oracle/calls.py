@@ -1,4 +1,4 @@
-"""Document 01, The calls and Refused; document 02, Papers 2 and 3. Each call takes its tables as lists and answers a tuple: the number (0 if
+"""Document 01, The calls and Refused; document 02, Papers 2 to 4. Each call takes its tables as lists and answers a tuple: the number (0 if
 accepted), then the tables that it was lent to write, as they are afterwards, then its other answers, None if refused. No list that is
 given is changed."""
 
@@ -315,6 +315,15 @@ def volume_of(block_counts):
     return sum(count - 1 for count in block_counts if count > 0)
 
 
+def share_of(loads, k):
+    """Document 02, Paper 4: the even share, the total divided by k, with the whole quotient and the remainder. The total is dealt out,
+    one to each of the k in a round, as long as there is one for each."""
+    rounds, left = 0, sum(loads)
+    while left >= k:
+        rounds, left = rounds + 1, left - k
+    return rounds, left
+
+
 def report_refusal(parents, loads, limit, k, flat, tables):
     n = len(parents)
     carried, tops, blocks, block_loads, tie_blocks, reach, block_counts, ties_taken, parents2, loads2 = tables
@@ -343,15 +352,15 @@ def report_refusal(parents, loads, limit, k, flat, tables):
 
 def report(parents, loads, limit, k, flat, *tables):
     """The tables: carried load, top, block, block loads, tie blocks, reach, block count, ties taken, and the two comparison tables.
-    Behind them bound and volume are answered."""
+    Behind them bound, volume and the even share, its quotient and its remainder, are answered."""
     number = report_refusal(parents, loads, limit, k, flat, tables)
     n, ties = len(parents), ties_of(flat)
     if number == 23:
-        return (23, *tables[:8], parents_of(n, ties), loads_of(n, ties), None, None)
+        return (23, *tables[:8], parents_of(n, ties), loads_of(n, ties), *[None] * 4)
     if number:
-        return (number, *tables, None, None)
+        return (number, *tables, *[None] * 4)
     carried, tops, blocks, block_loads = division(parents, loads, limit, k)
     tie_blocks = tie_blocks_of(ties, blocks)
     block_counts = block_counts_of(n, ties, tie_blocks)
     return (0, carried, tops, blocks, block_loads, tie_blocks, reaches(parents, ties), block_counts, ties_taken_of(n, ties, tie_blocks, k),
-            parents_of(n, ties), loads_of(n, ties), bound_of(parents, ties, tops), volume_of(block_counts))
+            parents_of(n, ties), loads_of(n, ties), bound_of(parents, ties, tops), volume_of(block_counts), *share_of(loads, k))

@@ -131,12 +131,12 @@ class Model:
         lent = [self.lent(length) for length in (n, n, n, blocks, m, n, n, n, n, n)]
         lengths = [n, n, n + m]
         work = [self.lent(length) for length in lengths]
-        number, *after, bound, volume = calls.report(*self.nets[net], limit, blocks, flat, *lent)
+        number, *after, bound, volume, quotient, remainder = calls.report(*self.nets[net], limit, blocks, flat, *lent)
         if number != 1 and [len(table) for table in work] != lengths:
             number, after = 2, lent
         if number in (0, 23):
             work = [[0] * length for length in lengths]
-        self.figures = f" {bound} {volume}" if number == 0 else " 7 7"
+        self.figures = f" {bound} {volume} {quotient} {remainder}" if number == 0 else " 7 7 7 7"
         return f"report {net}", number, after + work
 
     def index(self, net):

@@ -180,15 +180,16 @@ static void report(int net)
     Table carried = lent(n), top = lent(n), block = lent(n), loads = lent(blocks), edge_blocks = lent(m), reach = lent(n), count = lent(n);
     Table taken = lent(n), its_parents = lent(n), its_weights = lent(n), ends = lent(n), jump = lent(n), lower = lent(n + m);
     uint64_t bound = 7, volume = 7;
+    uint32_t quotient = 7, remainder = 7;
     printf("report %d %u", net, niqastul_report(p->entry, n, w->entry, w->length, limit, blocks, list->entry, list->length,
         carried.entry, carried.length, top.entry, top.length, block.entry, block.length, loads.entry, loads.length,
         edge_blocks.entry, edge_blocks.length, reach.entry, reach.length, count.entry, count.length,
         taken.entry, taken.length,
         its_parents.entry, its_parents.length, its_weights.entry, its_weights.length,
-        ends.entry, ends.length, jump.entry, jump.length, lower.entry, lower.length, &bound, &volume));
+        ends.entry, ends.length, jump.entry, jump.length, lower.entry, lower.length, &bound, &volume, &quotient, &remainder));
     print(&carried), print(&top), print(&block), print(&loads), print(&edge_blocks), print(&reach), print(&count);
     print(&taken), print(&its_parents), print(&its_weights), print(&ends), print(&jump), print(&lower);
-    printf(" %" PRIu64 " %" PRIu64, bound, volume);
+    printf(" %" PRIu64 " %" PRIu64 " %u %u", bound, volume, quotient, remainder);
 }
 
 /* The list that was last lent to an addition, and some more. */

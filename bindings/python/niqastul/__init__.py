@@ -6,7 +6,7 @@
     net.save(), net.read(data)          the net as bytes, and back
     net.parents, net.weights            the elimination forest, ABSENT for no parent; the edges by their lower end
     net.divide(limit, blocks)           the forest cut into groups that carry at most the limit, and packed into blocks
-    net.report(limit, blocks, edges)    that, and what it costs: block counts, bound and volume of communication
+    net.report(limit, blocks, edges)    that, and what it costs: block counts, bound and volume of communication; and the even share
     relabel(order, edges)               an edge list in vertex numbers, as ranks in an order
     index = Index(vertices, edges)      beside an edge list, in ranks: for each vertex its neighbours, in the order of the list
     index.neighbours(rank)              those of a rank
@@ -36,8 +36,18 @@ Division = collections.namedtuple("Division", "carried top block block_loads")
 
 # What a division costs: the block of each edge; for each vertex its reach, the number of different blocks among its edges, and how many
 # edges, in the order of the list, that count took, up to and with the first by which all blocks are met, or all; the sum of the reaches
-# of the vertices that are cut off, and the sum of (block count - 1), which is never above it.
-Report = collections.namedtuple("Report", "division edge_blocks reach block_count edges_taken bound volume")
+# of the vertices that are cut off, and the sum of (block count - 1), which is never above it; the even share.
+Report = collections.namedtuple("Report", "division edge_blocks reach block_count edges_taken bound volume share")
+
+
+class Share(collections.namedtuple("Share", "quotient remainder blocks")):
+    """The even share: the total of the weights divided by the number of blocks. The remainder is below that number."""
+
+    __slots__ = ()
+
+    def check_sum(self):
+        """The quotient times the number of blocks plus the remainder: the total."""
+        return self.quotient * self.blocks + self.remainder
 
 
 class Net:
@@ -87,9 +97,9 @@ class Net:
         m = len(edges) // 2
         its = Division(zeros(n), zeros(n), zeros(n), zeros(blocks))
         tables, work = [zeros(length) for length in (m, n, n, n)], [zeros(length) for length in (n, n, n, n, n + m)]
-        bound, volume = ctypes.c_uint64(), ctypes.c_uint64()
-        call("report", self.parents, self.weights, limit, blocks, edges, *its, *tables, *work, bound, volume)
-        return Report(its, *tables, bound.value, volume.value)
+        bound, volume, quotient, remainder = ctypes.c_uint64(), ctypes.c_uint64(), ctypes.c_uint32(), ctypes.c_uint32()
+        call("report", self.parents, self.weights, limit, blocks, edges, *its, *tables, *work, bound, volume, quotient, remainder)
+        return Report(its, *tables, bound.value, volume.value, Share(quotient.value, remainder.value, blocks))
 
 
 def relabel(order, edges):

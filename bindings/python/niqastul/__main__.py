@@ -34,7 +34,8 @@ SPLIT = """divide a net and write its blocks as files
 DIR is made, or is empty, or holds an earlier split, which is replaced whole. In it are
   block-NNN.rec      the ties of a block, in the order of ties.rec
   block-NNN.border   a line for each mark with ties in this block and in others: the mark, then those other blocks
-  summary.txt        marks, ties, limit, bound, volume, and of each block: load, ties, marks (with a tie in it),
+  summary.txt        marks, ties, limit, bound, volume, share (the total of the loads divided by the number of blocks: the
+                     whole quotient and the remainder), and of each block: load, ties, marks (with a tie in it),
                      own (marks whose group is in it), border (marks with ties in other blocks too)
   summary.json       the same, and a digest of each block's ties"""
 

@@ -65,6 +65,6 @@ def library():
     """Loaded at the first call, so that help and what needs no library do without."""
     built = pathlib.Path(__file__).resolve().parents[3] / "target" / "lib" / "libniqastul.so"
     try:
-        return ctypes.CDLL(os.environ.get("NIQASTUL_LIBRARY") or (str(built) if built.exists() else "libniqastul.so.0.4"))
+        return ctypes.CDLL(os.environ.get("NIQASTUL_LIBRARY") or (str(built) if built.exists() else "libniqastul.so.0.5"))
     except OSError as error:
         raise OSError(f"{error}; `make` builds the library, NIQASTUL_LIBRARY names one elsewhere") from error

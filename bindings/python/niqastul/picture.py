@@ -15,7 +15,8 @@ def picture(progress, marks, ties, want, placed, out):
     height, drawn, samples, notes = drawing
     loads = list(report.division.block_loads)
     figures = [f"{len(its.order):,} marks, {len(its.edges) // 2:,} ties", f"limit {limit:,}, {len(loads):,} block{'s' * (len(loads) > 1)}",
-               f"bound {report.bound:,}", f"volume {report.volume:,}"]
+               f"bound {report.bound:,}", f"volume {report.volume:,}",
+               f"share {report.share.quotient:,}, remainder {report.share.remainder:,}"]
     files.replace(out, beside_legend(title, height, drawn, legend.Legend(figures, loads, samples, notes)).encode())
 
 

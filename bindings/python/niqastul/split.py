@@ -106,11 +106,12 @@ def summed(limit, report, rows):
         own[block] += 1
     blocks = [{"block": block, "load": report.division.block_loads[block], "own": own[block], **row} for block, row in enumerate(rows)]
     return {"marks": sum(own), "ties": sum(row["ties"] for row in rows), "limit": limit, "bound": report.bound, "volume": report.volume,
-            "blocks": blocks}
+            "share": {"quotient": report.share.quotient, "remainder": report.share.remainder}, "blocks": blocks}
 
 
 def summary_text(summary):
     columns = ("block", "load", "ties", "marks", "own", "border")
-    lines = ["  ".join(f"{name} {summary[name]}" for name in ("marks", "ties", "limit", "bound", "volume"))]
+    figures = [f"{name} {summary[name]}" for name in ("marks", "ties", "limit", "bound", "volume")]
+    lines = ["  ".join(figures + ["share {quotient} {remainder}".format_map(summary["share"])])]
     lines += ["".join(f"{entry:>9}" for entry in row) for row in [columns] + [[its[name] for name in columns] for its in summary["blocks"]]]
     return "".join(line + "\n" for line in lines)

@@ -1,6 +1,6 @@
 //! From an order and an edge file to blocks: blocks marks.ord ties.rec want.rec
 //! The files hold little-endian 32-bit numbers: vertices, two vertices to an edge, the limit and the number of blocks. A line for each
-//! rank: rank, vertex, parent, weight, reach, top, block, block count; then bound and volume.
+//! rank: rank, vertex, parent, weight, reach, top, block, block count; then bound, volume and even share (quotient, remainder).
 use niqastul::{relabel, Net, ABSENT};
 
 fn numbers(path: &str) -> std::io::Result<Vec<u32>> {
@@ -19,8 +19,11 @@ fn main() -> Result<(), Box<dyn std::error::Error>> {
         let parent = net.parents()[rank];
         let parent = if parent == ABSENT { "-".to_string() } else { parent.to_string() };
         let (weight, reach, count) = (net.weights()[rank], its.reach[rank], its.block_count[rank]);
-        println!("{rank} {} {parent} {weight} {reach} {} {} {count}", order[rank], its.division.top[rank], its.division.block[rank]);
+        println!(
+            "{rank} {} {parent} {weight} {reach} {} {} {count}",
+            order[rank], its.division.top[rank], its.division.block[rank]
+        );
     }
-    println!("bound {} volume {}", its.bound, its.volume);
+    println!("bound {} volume {} share {} {}", its.bound, its.volume, its.share.quotient(), its.share.remainder());
     Ok(())
 }

@@ -180,7 +180,7 @@ impl Net {
         let (mut edge_blocks, mut reach) = (vec![0; edges.len() / 2], zeros());
         let (mut block_count, mut edges_taken) = (zeros(), zeros());
         self.work.resize(vertices, edges.len() / 2);
-        let (bound, volume) = tables::report(
+        let (bound, volume, share) = tables::report(
             &self.parents,
             &self.weights,
             limit,
@@ -198,7 +198,7 @@ impl Net {
             &mut zeros(),
             &mut self.work,
         )?;
-        Ok(Report { division: its, edge_blocks, reach, block_count, edges_taken, bound, volume })
+        Ok(Report { division: its, edge_blocks, reach, block_count, edges_taken, bound, volume, share })
     }
 }
 
@@ -231,6 +231,32 @@ pub struct Report {
     pub bound: u64,
     /// The sum of (block count - 1) over the vertices with an edge; never above the bound.
     pub volume: u64,
+    pub share: Share,
+}
+
+/// The even share: the total of the weights divided by the number of blocks.
+#[derive(Clone, Copy, Debug, PartialEq, Eq)]
+pub struct Share {
+    quotient: u32,
+    remainder: u32,
+    blocks: u32,
+}
+
+impl Share {
+    /// The whole quotient.
+    pub fn quotient(self) -> u32 {
+        self.quotient
+    }
+
+    /// What is left of the total, below the number of blocks.
+    pub fn remainder(self) -> u32 {
+        self.remainder
+    }
+
+    /// The quotient times the number of blocks plus the remainder: the total.
+    pub fn check_sum(self) -> u64 {
+        u64::from(self.quotient) * u64::from(self.blocks) + u64::from(self.remainder)
+    }
 }
 
 impl Division {

@@ -1,6 +1,6 @@
 //! The library's calls over tables that the caller lends, as include/niqastul.h describes them.
 
-use crate::{Refusal, ABSENT};
+use crate::{Refusal, Share, ABSENT};
 
 mod library {
     extern "C" {
@@ -71,6 +71,8 @@ mod library {
             lower: *mut u32, lower_length: usize,
             bound: *mut u64,
             volume: *mut u64,
+            quotient: *mut u32,
+            remainder: *mut u32,
         ) -> u32;
         pub fn niqastul_index(
             old_edges: *const u32, old_edges_length: usize,
@@ -225,8 +227,8 @@ pub fn divide(
     })
 }
 
-/// Divides a net and reports what the division costs, given the net's own edges; answers the bound and the volume. Refused with
-/// [`Refusal::OtherEdges`], it leaves the net of the edges in the compared tables.
+/// Divides a net and reports what the division costs, given the net's own edges; answers the bound, the volume and the even
+/// share. Refused with [`Refusal::OtherEdges`], it leaves the net of the edges in the compared tables.
 pub fn report(
     parents: &[u32],
     weights: &[u32],
@@ -244,8 +246,8 @@ pub fn report(
     compared_parents: &mut [u32],
     compared_weights: &mut [u32],
     work: &mut Work,
-) -> Result<(u64, u64), Refusal> {
-    let (mut bound, mut volume) = (0, 0);
+) -> Result<(u64, u64, Share), Refusal> {
+    let (mut bound, mut volume, mut quotient, mut remainder) = (0, 0, 0, 0);
     answer(unsafe {
         library::niqastul_report(
             parents.as_ptr(), parents.len(),
@@ -268,9 +270,11 @@ pub fn report(
             work.lower.as_mut_ptr(), work.lower.len(),
             &mut bound,
             &mut volume,
+            &mut quotient,
+            &mut remainder,
         )
     })?;
-    Ok((bound, volume))
+    Ok((bound, volume, Share { quotient, remainder, blocks }))
 }
 
 /// Writes the index of an old list of edges followed by an added one, whatever its tables held.

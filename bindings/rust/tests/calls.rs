@@ -1,6 +1,9 @@
 //! Each call through the safe interface: document 01's nets on paper, every refusal that safe code can meet, tables left alone.
 use niqastul::{relabel, tables, Net, Refusal, ABSENT, MAX_VERTICES};
 
+// the edges of document 01's whole case, in ranks
+const WHOLE_CASE: [u32; 12] = [0, 2, 0, 4, 1, 3, 1, 4, 2, 5, 2, 0];
+
 fn net(vertices: usize, edges: &[u32]) -> Net {
     let mut net = Net::new(vertices).unwrap();
     net.add(edges).unwrap();
@@ -135,6 +138,7 @@ fn reported() {
     assert_eq!(report.block_count, [1, 1, 1, 1, 2, 1]);
     assert_eq!(report.edges_taken, [3, 2, 3, 1, 2, 1]);
     assert_eq!((report.bound, report.volume), (2, 1));
+    assert_eq!((report.share.quotient(), report.share.remainder()), (3, 0));
     let report = net.report(4, 1, &edges).unwrap();
     assert_eq!((report.bound, report.volume), (2, 0));
     assert_eq!(net.report(4, 2, &edges[1..]), Err(Refusal::WrongLength));
@@ -148,18 +152,30 @@ fn reported() {
 #[test]
 fn edges_taken() {
     // vertex 2 has edges of both blocks, and which of them come first is told by the list
-    let edges = [0, 2, 0, 4, 1, 3, 1, 4, 2, 5, 2, 0];
     let moved = [0, 2, 0, 4, 1, 3, 1, 4, 2, 0, 5, 2];
-    let mut net = net(6, &edges);
-    let (one, other) = (net.report(3, 2, &edges).unwrap(), net.report(3, 2, &moved).unwrap());
+    let mut net = net(6, &WHOLE_CASE);
+    let (one, other) = (net.report(3, 2, &WHOLE_CASE).unwrap(), net.report(3, 2, &moved).unwrap());
     assert_eq!(one.edge_blocks, [0, 0, 1, 1, 1, 0]);
     assert_eq!(one.block_count, [1, 1, 2, 1, 2, 1]);
     assert_eq!(one.edges_taken, [3, 2, 2, 1, 2, 1]);
     assert_eq!(other.edges_taken, [3, 2, 3, 1, 2, 1]);
     assert_eq!((other.block_count, other.bound, other.volume), (one.block_count, one.bound, one.volume));
-    assert_eq!(net.report(3, 1, &edges).unwrap().edges_taken, [1; 6]);
-    assert_eq!(net.report(3, 1000, &edges).unwrap().edges_taken, [3, 2, 3, 1, 2, 1]);
+    assert_eq!(net.report(3, 1, &WHOLE_CASE).unwrap().edges_taken, [1; 6]);
+    assert_eq!(net.report(3, 1000, &WHOLE_CASE).unwrap().edges_taken, [3, 2, 3, 1, 2, 1]);
     assert_eq!(Net::new(2).unwrap().report(1, 1, &[]).unwrap().edges_taken, [0, 0]);
+}
+
+#[test]
+fn even_share() {
+    // the check sum is the total, be it divided by the number of blocks, with a remainder or not, or below it
+    let mut its = net(6, &WHOLE_CASE);
+    for (blocks, quotient, remainder) in [(1, 6, 0), (2, 3, 0), (4, 1, 2), (5, 1, 1), (6, 1, 0), (7, 0, 6), (1000, 0, 6)] {
+        let share = its.report(4, blocks, &WHOLE_CASE).unwrap().share;
+        assert_eq!((share.quotient(), share.remainder()), (quotient, remainder));
+        assert_eq!(share.check_sum(), its.weights().iter().map(|&weight| u64::from(weight)).sum::<u64>());
+    }
+    let share = Net::new(2).unwrap().report(1, 3, &[]).unwrap().share;
+    assert_eq!((share.quotient(), share.remainder(), share.check_sum()), (0, 0, 0));
 }
 
 #[test]
@@ -187,7 +203,8 @@ fn compared() {
             &mut parents,
             &mut weights,
             work,
-        );
+        )
+        .map(|(bound, volume, share)| (bound, volume, share.quotient(), share.remainder()));
         (answer, parents, weights, carried, taken)
     };
     let untouched = |refusal| (Err(refusal), [7; 2], [7; 2], [7; 2], [7; 3]);
@@ -195,7 +212,7 @@ fn compared() {
     assert_eq!(report([0, ABSENT], 0, 3), untouched(Refusal::WrongLength));
     assert_eq!(report([0, ABSENT], 0, 2), untouched(Refusal::Damaged));
     assert_eq!(report([1, ABSENT], 0, 2), (Err(Refusal::OtherEdges), [1, ABSENT], [1, 0], [7; 2], [7; 3]));
-    assert_eq!(report([1, ABSENT], 1, 2), (Ok((0, 0)), [1, ABSENT], [1, 0], [1, 1], [1, 1, 7]));
+    assert_eq!(report([1, ABSENT], 1, 2), (Ok((0, 0, 1, 0)), [1, ABSENT], [1, 0], [1, 1], [1, 1, 7]));
 }
 
 #[test]

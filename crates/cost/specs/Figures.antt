@@ -14,8 +14,10 @@ use lib.ListN.{length, getD}
 use Rattle.game.specs.Table.{tabulate, sum, member, count, filtered}
 use Rattle.game.specs.Edge.{Edge, _─_}
 use Rattle.game.specs.Game.{absent}
-use Rattle.game.specs.Net.{Net, owner, reach}
+use Rattle.game.specs.Net.{Net, total, owner, reach}
 use Rattle.partition.specs.Divide.{divided}
+use Rattle.sharing.specs.declared.Share.{Share}
+use Rattle.sharing.specs.Share.{evenShare}
 use Rattle.cost.specs.declared.Totals.{Totals}
 
 -- "A tie belongs to the block of its lower end": of the vertex that it is charged to
@@ -61,9 +63,13 @@ boundOf net es B k = bound (net .parents) es (divided net B k .top)
 unfoldable pub volumeOf : Net → List Edge → ℕ → ℕ → ℕ
 volumeOf net es B k = volume (length (net .parents)) k (divided net B k .block) es
 
--- what a report answers: the code's own record of the two
-abbrev pub totals : (bound volume : ℕ) → Totals
-totals b v = record { bound = b; volume = v }
+-- document 02, Paper 4: "the even share as the total divided by k"
+unfoldable pub shareOf : Net → ℕ → Share
+shareOf net k = evenShare (total net) k
+
+-- what a report answers: the code's own record of the three
+abbrev pub totals : (bound volume : ℕ) → Share → Totals
+totals b v s = record { bound = b; volume = v; share = s }
 
 unfoldable pub totalsOf : Net → List Edge → ℕ → ℕ → Totals
-totalsOf net es B k = totals (boundOf net es B k) (volumeOf net es B k)
+totalsOf net es B k = totals (boundOf net es B k) (volumeOf net es B k) (shareOf net k)

@@ -1,4 +1,5 @@
 // What a division costs: the block of each edge, and the bound and the volume of communication between the blocks.
+use sharing::Share;
 use table::wide;
 ghost use mathlib.Core.Path.{_≡_};
 ghost use lib.ListN.{length};
@@ -8,10 +9,11 @@ ghost use Rattle.cost.specs.Figures.{edgeBlocks};
 pub use summing::bound;
 pub use summing::volume;
 
-// What a report answers of a division: the bound and the volume of communication.
+// What a report answers of a division: the bound and the volume of communication, and the even share of a block.
 pub struct Totals {
     pub bound: u64,
     pub volume: u64,
+    pub share: Share,
 }
 
 // Writes the block of each edge: that of its lower end.

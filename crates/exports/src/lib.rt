@@ -20,8 +20,7 @@ ghost use Rattle.indexing.specs.Build.{indexOutcome};
 ghost use Rattle.querying.specs.Query.{place, queryPlace};
 ghost use Rattle.writing.specs.Written.{written};
 ghost use Rattle.report.specs.Report.{lent, reportOutcome};
-ghost use Rattle.cost.specs.Figures.{totals};
-ghost use Rattle.handing.specs.Returned.{returned, handed, filled, handedTotals, handedRank};
+ghost use Rattle.handing.specs.Returned.{returned, handed, filled, cells, handedTotals, handedRank};
 
 #[no_mangle]
 pub extern "C" fn niqastul_relabel(
@@ -137,7 +136,7 @@ pub extern "C" fn niqastul_divide(
     ))
 }
 
-// The figures of an accepted report go into the two cells; a refused one leaves the cells as they were.
+// The figures of an accepted report go into the four cells; a refused one leaves the cells as they were.
 #[no_mangle]
 pub extern "C" fn niqastul_report(
     parents: &[u32],
@@ -160,13 +159,15 @@ pub extern "C" fn niqastul_report(
     lower: &mut [u32],
     bound: &mut u64,
     volume: &mut u64,
+    quotient: &mut u32,
+    remainder: &mut u32,
 ) -> u32
     ensures { λ r. ⌜
-        filled r (totals (now (bound .exit)) (now (volume .exit)))
+        filled r (cells (now (bound .exit)) (now (volume .exit)) (now (quotient .exit)) (now (remainder .exit)))
         (lent (written (divisionOf (now (carried .exit)) (now (top .exit)) (now (block .exit)) (now («block_loads» .exit))) (now («edge_blocks» .exit)) (now (reach .exit)) (now («block_count» .exit)) (now («edges_taken» .exit)))
         (net (now («compared_parents» .exit)) (now («compared_weights» .exit)))
         (workOf (now (ends .exit)) (now (jump .exit)) (now (lower .exit))))
-        ≡ handedTotals (totals (now (bound .entry)) (now (volume .entry)))
+        ≡ handedTotals (cells (now (bound .entry)) (now (volume .entry)) (now (quotient .entry)) (now (remainder .entry)))
         (reportOutcome (net (now (parents .entry)) (now (weights .entry))) limit blocks (now (edges .entry))
         (lent (written (divisionOf (now (carried .entry)) (now (top .entry)) (now (block .entry)) (now («block_loads» .entry))) (now («edge_blocks» .entry)) (now (reach .entry)) (now («block_count» .entry)) (now («edges_taken» .entry)))
         (net (now («compared_parents» .entry)) (now («compared_weights» .entry)))
@@ -192,7 +193,7 @@ pub extern "C" fn niqastul_report(
         jump,
         lower,
     );
-    hand_totals(answer, bound, volume)
+    hand_totals(answer, bound, volume, quotient, remainder)
 }
 
 #[no_mangle]

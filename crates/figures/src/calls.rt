@@ -1,5 +1,6 @@
 // A function for each call: it reads the tables of a case, lends them, and writes what the call answers and leaves. Of a table that a
 // call only writes the case has the size; it holds nines before the call.
+use cost::Totals;
 use libc::STDOUT_FILENO;
 use report::ReportAnswer;
 use script::MOST;
@@ -9,6 +10,8 @@ use script::front;
 use script::front_of;
 use script::number;
 use script::skip;
+use sharing::Share;
+use table::amount;
 
 pub fn divide() {
     let mut parents = [0u32; MOST];
@@ -39,17 +42,28 @@ pub fn divide() {
     script::end();
 }
 
-fn totals(bound: u64, volume: u64) {
-    io::write_all(STDOUT_FILENO, b"  accepted, bound ");
-    io::print_decimal(STDOUT_FILENO, bound);
-    io::write_all(STDOUT_FILENO, b", volume ");
-    io::print_decimal(STDOUT_FILENO, volume);
+// The even share, and what it sums up to.
+fn share(its: Share) {
+    io::write_all(STDOUT_FILENO, b", share ");
+    io::print_decimal(STDOUT_FILENO, amount(its.quotient()));
+    io::write_all(STDOUT_FILENO, b" ");
+    io::print_decimal(STDOUT_FILENO, amount(its.remainder()));
+    io::write_all(STDOUT_FILENO, b", sum ");
+    io::print_decimal(STDOUT_FILENO, its.check_sum());
     io::write_all(STDOUT_FILENO, b" ;");
+}
+
+fn totals(its: Totals) {
+    io::write_all(STDOUT_FILENO, b"  accepted, bound ");
+    io::print_decimal(STDOUT_FILENO, its.bound);
+    io::write_all(STDOUT_FILENO, b", volume ");
+    io::print_decimal(STDOUT_FILENO, its.volume);
+    share(its.share);
 }
 
 fn report_answer(a: ReportAnswer) {
     match a {
-        ReportAnswer::Accepted(t) => totals(t.bound, t.volume),
+        ReportAnswer::Accepted(its) => totals(its),
         ReportAnswer::Refused(number) => script::refused(number),
     }
 }

@@ -12,7 +12,7 @@ use Rattle.cost.specs.declared.Totals.{Totals}
 use Rattle.report.specs.declared.ReportAnswer.{ReportAnswer}
 use Rattle.report.specs.declared.ReportAnswer.the-variants as report
 use Rattle.report.specs.Answer.{verdict as reportVerdict}
-use Rattle.handing.specs.Returned.{told, toldTotals}
+use Rattle.handing.specs.Returned.{told, TotalsCells, cells, cellsOf}
 
 -- where a forest moved
 module _ (was : ℕ) {answer : GrowthAnswer} where
@@ -25,11 +25,12 @@ module _ (was : ℕ) {answer : GrowthAnswer} where
   rank-refused e = rw e (refl, refl)
 
 -- what a report answers
-module _ (was : Totals) {answer : ReportAnswer} where
-  pub totals-accepted : {its : Totals} → answer ≡ report.Accepted its → (0 ≡ number (reportVerdict answer)) × (its ≡ toldTotals (reportVerdict answer) was)
-  unfolding reportVerdict number told
-  totals-accepted e = rw e (refl, refl)
+module _ (was : TotalsCells) {answer : ReportAnswer} where
+  pub totals-accepted : {its : Totals} {q r : ℕ} → answer ≡ report.Accepted its → q ≡ its .share .quotient → r ≡ its .share .remainder
+      → (0 ≡ number (reportVerdict answer)) × (cells (its .bound) (its .volume) q r ≡ told cellsOf (reportVerdict answer) was)
+  unfolding reportVerdict number told cellsOf
+  totals-accepted {its} e f g = rw e (refl, λ i. cells (its .bound) (its .volume) (f i) (g i))
 
-  pub totals-refused : {k : ℕ} → answer ≡ report.Refused k → (k ≡ number (reportVerdict answer)) × (was ≡ toldTotals (reportVerdict answer) was)
+  pub totals-refused : {k : ℕ} → answer ≡ report.Refused k → (k ≡ number (reportVerdict answer)) × (was ≡ told cellsOf (reportVerdict answer) was)
   unfolding reportVerdict number told
   totals-refused e = rw e (refl, refl)

@@ -34,15 +34,25 @@ unfoldable pub told : {X C : Type 0} → (X → C) → Verdict X → C → C
 told hold (accepted values) was = hold values
 told hold (refused k) was = was
 
-abbrev pub toldTotals : Verdict Totals → Totals → Totals
-toldTotals v was = told (λ (totals : Totals). totals) v was
+-- the cells of a report: bound and volume, and of the even share what each block gets and what is left over
+pub record TotalsCells : Type 0 where
+  pub bound : ℕ
+  pub volume : ℕ
+  pub quotient : ℕ
+  pub remainder : ℕ
+
+abbrev pub cells : (bound volume quotient remainder : ℕ) → TotalsCells
+cells b v q r = record { bound = b; volume = v; quotient = q; remainder = r }
+
+unfoldable pub cellsOf : Totals → TotalsCells
+cellsOf t = cells (t .bound) (t .volume) (t .share .quotient) (t .share .remainder)
 
 unfoldable pub handedCells : {X C A : Type 0} → (X → C) → C → Outcome X A → Filled C A
 handedCells hold was o = filled (number (o .verdict)) (told hold (o .verdict) was) (o .tables)
 
--- the two cells of a report hold its totals; the cell of an addition or a join holds a rank, `rankOf` where the forest moved
-abbrev pub handedTotals : {A : Type 0} → Totals → Outcome Totals A → Filled Totals A
-handedTotals was o = handedCells (λ (totals : Totals). totals) was o
+-- the four cells of a report hold its totals; the cell of an addition or a join holds a rank, `rankOf` where the forest moved
+abbrev pub handedTotals : {A : Type 0} → TotalsCells → Outcome Totals A → Filled TotalsCells A
+handedTotals was o = handedCells cellsOf was o
 
 abbrev pub handedRank : {A : Type 0} → ℕ → Outcome Moved A → Filled ℕ A
 handedRank was o = handedCells rankOf was o

@@ -7,10 +7,9 @@ ghost use mathlib.Core.Path.{_≡_};
 ghost use Rattle.refusal.specs.Verdict.{number};
 ghost use Rattle.moving.specs.Moved.{rankOf};
 ghost use Rattle.moving.specs.Answer.{verdict as growthVerdict};
-ghost use Rattle.cost.specs.Figures.{totals};
 ghost use Rattle.report.specs.Answer.{verdict as reportVerdict};
 ghost use Rattle.querying.specs.Query.{place};
-ghost use Rattle.handing.specs.Returned.{told, toldTotals};
+ghost use Rattle.handing.specs.Returned.{told, cells, cellsOf};
 
 // Hands over where a forest moved, as a rank.
 pub fn hand_rank(answer: GrowthAnswer, moved: &mut u32) -> u32
@@ -25,14 +24,26 @@ pub fn hand_rank(answer: GrowthAnswer, moved: &mut u32) -> u32
     }
 }
 
-// Hands over what a report answers.
-pub fn hand_totals(answer: ReportAnswer, bound: &mut u64, volume: &mut u64) -> u32
-    ensures { λ r. ⌜ (r ≡ number (reportVerdict answer)) × (totals (now (bound .exit)) (now (volume .exit)) ≡ toldTotals (reportVerdict answer) (totals (now (bound .entry)) (now (volume .entry)))) ⌝ }
+// Hands over what a report answers: the number of blocks that its share knows is the caller's own.
+pub fn hand_totals(
+    answer: ReportAnswer,
+    bound: &mut u64,
+    volume: &mut u64,
+    quotient: &mut u32,
+    remainder: &mut u32,
+) -> u32
+    ensures { λ r. ⌜
+        (r ≡ number (reportVerdict answer))
+        × (cells (now (bound .exit)) (now (volume .exit)) (now (quotient .exit)) (now (remainder .exit))
+        ≡ told cellsOf (reportVerdict answer) (cells (now (bound .entry)) (now (volume .entry)) (now (quotient .entry)) (now (remainder .entry)))) ⌝ }
 {
     match answer {
         ReportAnswer::Accepted(totals) => {
+            let share = totals.share;
             *bound = totals.bound;
             *volume = totals.volume;
+            *quotient = share.quotient();
+            *remainder = share.remainder();
             0
         }
         ReportAnswer::Refused(number) => number,

@@ -26,6 +26,9 @@ pub long-digits : (x : ℕ) → x < 2 ^ 64 → length (decimal x) ≤ 20
 long-digits x h = decimal-short 19 x (omega arith)
 
 -- a number x, handed on as y, and the byte behind it
+pub put-as : {was now : List ℕ} {at end x y : ℕ} (after : ℕ) → y ≡ x → Put was at (decimal y ++ (after ∷ [])) now end → Put was at (decimal x ++ (after ∷ [])) now end
+put-as {was} {now} {at} {end} after e p = subst (λ (z : ℕ). Put was at (decimal z ++ (after ∷ [])) now end) e p
+
 module _ (digits : ℕ) {x y : ℕ} (e : y ≡ x) (h : length (decimal x) ≤ digits) where
   short : length (decimal y) ≤ digits
   short = omega (arith, ap (λ (z : ℕ). length (decimal z)) e)
@@ -35,8 +38,7 @@ module _ (digits : ℕ) {x y : ℕ} (e : y ≡ x) (h : length (decimal x) ≤ di
 
   pub put-field : {was now : List ℕ} {at end : ℕ} (after : ℕ) → Put was at (decimal y ++ (after ∷ [])) now end
       → Put was at (decimal x ++ (after ∷ [])) now end × (end ≤ at + (digits + 1))
-  put-field {was} {now} {at} {end} after p =
-      (subst (λ (z : ℕ). Put was at (decimal z ++ (after ∷ [])) now end) e p, omega (arith, p .ends, length-append (decimal y) (after ∷ []), short))
+  put-field after p = (put-as after e p, omega (arith, p .ends, length-append (decimal y) (after ∷ []), short))
 
 -- a parent
 module _ {was now : List ℕ} {at end p : ℕ} where

@@ -2,6 +2,7 @@
 --
 -- Document 01: refused, it "prints `refused` and the number. .. Otherwise it prints a line for each rank: rank, mark, parent (`-` if
 -- none), load, reach, top, block, block count; then bound and volume." Each line ends with a newline, the last one too.
+-- Document 02, Paper 4: "The program's last line continues with `share`, the quotient, and the remainder, separated by spaces."
 -- Assumes nothing.
 use mathlib.Core.Bool.{cond}
 use mathlib.Core.List.{List, [], _++_}
@@ -11,6 +12,7 @@ use lib.ListN.{getD}
 use Rattle.game.specs.Game.{absent}
 use Rattle.decimal.specs.Ascii.{ascii}
 use Rattle.decimal.specs.Decimal.{decimal}
+use Rattle.sharing.specs.declared.Share.{Share}
 use Rattle.cost.specs.declared.Totals.{Totals}
 
 -- a field of a line, and the space behind it
@@ -49,6 +51,10 @@ unfoldable pub linesBelow : (ℕ → List ℕ) → ℕ → List ℕ
 linesBelow line zero = []
 linesBelow line (suc x) = linesBelow line x ++ line x
 
--- "then bound and volume"
+-- "`share`, the quotient, and the remainder, separated by spaces"
+unfoldable pub shareText : Share → List ℕ
+shareText share = ascii "share " ++ spaced (decimal (share .quotient)) ++ newlined (decimal (share .remainder))
+
+-- "then bound and volume", and the share
 unfoldable pub totalsText : Totals → List ℕ
-totalsText totals = ascii "bound " ++ spaced (decimal (totals .bound)) ++ ascii "volume " ++ newlined (decimal (totals .volume))
+totalsText totals = ascii "bound " ++ spaced (decimal (totals .bound)) ++ ascii "volume " ++ spaced (decimal (totals .volume)) ++ shareText (totals .share)

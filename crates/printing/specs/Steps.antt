@@ -17,12 +17,15 @@ entryRoom = 11
 abbrev pub figureRoom : ℕ
 figureRoom = 21
 
--- the room of a line, and of the last one: two words and two numbers
+-- the room of a line, of the share, and of the last line, which the share ends: three words, two numbers of 64 bits and two of 32
 abbrev pub lineRoom : ℕ
 lineRoom = 8 * entryRoom
 
+abbrev pub shareRoom : ℕ
+shareRoom = 6 + 2 * entryRoom
+
 abbrev pub totalsRoom : ℕ
-totalsRoom = 13 + 2 * figureRoom
+totalsRoom = 13 + 2 * figureRoom + shareRoom
 
 -- the columns of the printed table, as long as the order
 pub record Columns (order p w r t b c : List ℕ) : Type 0 where

@@ -10,7 +10,10 @@ const ENTRY: usize = 11;
 
 const FIGURE: usize = 21;
 
-// The room of a line, and of the last one: two words and two numbers. A refusal is shorter than that.
+// The room of a line, of the share, and of the last line, which the share ends: three words, two numbers of 64 bits and two of 32. A
+// refusal is shorter than that.
 pub const LINE: usize = 8 * ENTRY;
 
-pub const TOTALS: usize = 13 + 2 * FIGURE;
+const SHARE: usize = 6 + 2 * ENTRY;
+
+pub const TOTALS: usize = 13 + 2 * FIGURE + SHARE;

@@ -6,12 +6,13 @@ use crate::fields::put_parent;
 use cost::Totals;
 use decimal::put_text;
 use report::ReportAnswer;
+use sharing::Share;
 ghost use Prim.Native.Nat.{_+_, _*_, _≤_};
 ghost use lib.ListN.{length};
 ghost use Rattle.decimal.specs.Put.{Put};
 ghost use Rattle.report.specs.Answer.{verdict};
-ghost use Rattle.printing.specs.Lines.{refusedText, lineText, rankText, linesBelow, totalsText};
-ghost use Rattle.printing.specs.Steps.{Columns, answerText, lineRoom, totalsRoom};
+ghost use Rattle.printing.specs.Lines.{refusedText, lineText, rankText, linesBelow, shareText, totalsText};
+ghost use Rattle.printing.specs.Steps.{Columns, answerText, lineRoom, shareRoom, totalsRoom};
 
 // The line of a rank.
 fn put_line(
@@ -79,6 +80,16 @@ fn put_lines(
     end
 }
 
+// The even share, which ends the last line.
+fn put_share(text: &mut [u8], at: usize, share: Share) -> usize
+    requires { ⌜ at + shareRoom ≤ length (now text) ⌝ }
+    ensures { λ r. ⌜ Put (now (text .entry)) at (shareText share) (now (text .exit)) r ⌝ }
+{
+    let end = put_text(text, at, b"share ");
+    let end = put_entry(text, end, share.quotient(), b' ');
+    put_entry(text, end, share.remainder(), b'\n')
+}
+
 // The last line: the totals of the report.
 fn put_totals(text: &mut [u8], at: usize, totals: Totals) -> usize
     requires { ⌜ at + totalsRoom ≤ length (now text) ⌝ }
@@ -87,7 +98,8 @@ fn put_totals(text: &mut [u8], at: usize, totals: Totals) -> usize
     let end = put_text(text, at, b"bound ");
     let end = put_figure(text, end, totals.bound, b' ');
     let end = put_text(text, end, b"volume ");
-    put_figure(text, end, totals.volume, b'\n')
+    let end = put_figure(text, end, totals.volume, b' ');
+    put_share(text, end, totals.share)
 }
 
 // What a refused run prints.

@@ -4,3 +4,4 @@ pub mod Refused
 pub mod Outcome
 pub mod Together
 pub mod Taken
+pub mod Shared

@@ -1,4 +1,4 @@
--- A report on a net's own edges: never refused with 23, and where it is accepted, it answers the bound and the volume.
+-- A report on a net's own edges: never refused with 23, and where it is accepted, it answers its totals.
 -- Assumes nothing.
 use mathlib.Core.Path.{_≡_, refl}
 use mathlib.Core.Bool.{Bool}

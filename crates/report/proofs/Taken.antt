@@ -3,7 +3,6 @@
 use mathlib.Core.Path.{_≡_, ap, _∙_}
 use mathlib.Core.List.{List, []}
 use Prim.Native.Nat.{ℕ, _<_}
-use native.Mathlib.Omega.{arith}
 use lib.ListN.{length, getD}
 use Rattle.game.specs.Table.{tabulate}
 use Rattle.game.specs.Edge.{edges}
@@ -12,15 +11,13 @@ use Rattle.game.proofs.Tables.{tabulate-entry}
 use Rattle.refusal.specs.Verdict.{accepted}
 use Rattle.refusal.proofs.First.{unless-accepted}
 use Rattle.partition.specs.Divide.{divided}
-use Rattle.partition.proofs.Refused.{divide-known}
 use Rattle.cost.specs.declared.Totals.{Totals}
 use Rattle.cost.specs.Figures.{blocksAt}
 use Rattle.meeting.specs.Taken.{edgesTaken, CountEnds}
 use Rattle.meeting.proofs.Taken.{taken-ends, ends-count, nothing-open}
 use Rattle.writing.specs.Written.{Written, figures}
 use Rattle.report.specs.Report.{Lent, reportOutcome}
-use Rattle.report.proofs.Refused.{ready}
-use Rattle.report.proofs.Together.{passed, written}
+use Rattle.report.proofs.Together.{passed, some-block, written}
 
 module _ (of : Net) (B k : ℕ) (xs : List ℕ) (was : Lent) {totals : Totals} (answer : reportOutcome of B k xs was .verdict ≡ accepted totals) where
   taken : reportOutcome of B k xs was .tables .written .edgesTaken ≡ tabulate (length (of .parents)) (edgesTaken k (divided of B k .block) (edges xs))
@@ -34,7 +31,5 @@ module _ (of : Net) (B k : ℕ) (xs : List ℕ) (was : Lent) {totals : Totals} (
       → CountEnds k (blocksAt (reportOutcome of B k xs was .tables .written .division .block) (edges xs) x) (getD (reportOutcome of B k xs was .tables .written .edgesTaken) x 0)
   unfolding edgesTaken
   report-taken x h =
-      let d = divide-known (of .parents) (of .weights) B k (was .written .division) (ready of B k xs was (passed of B k xs was answer .0) .divides) in
-      let some : 0 < k = omega (arith, d .tables .some, d .blocks) in
       rw (written of B k xs was answer, taken, tabulate-entry (length (of .parents)) (edgesTaken k (divided of B k .block) (edges xs)) x 0 h)
-      (ends-count (taken-ends k [] (blocksAt (divided of B k .block) (edges xs) x) (nothing-open k some)))
+      (ends-count (taken-ends k [] (blocksAt (divided of B k .block) (edges xs) x) (nothing-open k (some-block of B k xs was answer))))

@@ -31,6 +31,12 @@ module _ (of : Net) (B k : ℕ) (xs : List ℕ) (was : Lent) {totals : Totals} (
       let early = first-none _ _ (accepted-none (reportRefusal of B k xs was) _ answer) in
       (early .0, first-none _ _ (early .1) .0)
 
+  -- there is a block
+  pub some-block : 0 < k
+  some-block =
+      let d = divide-known (of .parents) (of .weights) B k (was .written .division) (ready of B k xs was (passed .0) .divides) in
+      omega (arith, d .tables .some, d .blocks)
+
   -- the edges are the net's own
   own : of ≡ netOf (length (of .parents)) (edges xs)
   unfolding unlike
@@ -49,10 +55,9 @@ module _ (of : Net) (B k : ℕ) (xs : List ℕ) (was : Lent) {totals : Totals} (
       let r = ready of B k xs was (passed .0) in
       let d = divide-known (of .parents) (of .weights) B k (was .written .division) (r .divides) in
       let proper = faultless-proper (length (of .parents)) (edges xs) (r .faultless) in
-      let some : 0 < k = omega (arith, d .tables .some, d .blocks) in
       let any : 0 < length (of .parents) = r .some in
       subst (Together of (edges xs) k) (sym written)
       (record {
-        net = λ js order tables p w lots fit. blocks-laid-together of (d .net .few) proper own B k some any (d .net .small) order tables p w lots fit;
-        loads = block-charges of (d .net .few) proper own B k some (d .net);
+        net = λ js order tables p w lots fit. blocks-laid-together of (d .net .few) proper own B k some-block any (d .net .small) order tables p w lots fit;
+        loads = block-charges of (d .net .few) proper own B k some-block (d .net);
       })

@@ -1,6 +1,6 @@
 -- Document 01, "Whole case": what Report ends with, computed from the definitions as one table; with it "With B = 3 rank 0 is the only
 -- cut; with B = 2 the answer is 22. With k = 1 volume is 0", and a list that is not the net's own, which is 23. The last table of each is
--- document 02's Paper 3: how many of its edges the count of each vertex took.
+-- document 02's Paper 3, how many of its edges the count of each vertex took; the share with each bound and volume is its Paper 4.
 -- Assumes nothing.
 use mathlib.Core.Path.{_≡_, refl}
 use mathlib.Core.List.{List, [], _∷_}
@@ -15,7 +15,8 @@ use Rattle.refusal.specs.Refusal.{given, first, unless, badCount, wrongLength, 
 use Rattle.net.specs.Damage.{damagedBy, damaged}
 use Rattle.growth.specs.Work.{workOf, badWork, zeros, cleared}
 use Rattle.partition.specs.Divide.{divisionOf, badLimits, tooHeavy, divided, wrongTables}
-use Rattle.cost.specs.Figures.{edgeBlock, edgeBlocks, touches, blocksAt, different, blockCount, isCut, bound, volume, boundOf, volumeOf, totals, totalsOf}
+use Rattle.sharing.specs.Share.{share, evenShare}
+use Rattle.cost.specs.Figures.{edgeBlock, edgeBlocks, touches, blocksAt, different, blockCount, isCut, bound, volume, boundOf, volumeOf, shareOf, totals, totalsOf}
 use Rattle.meeting.specs.Taken.{allMet, takenAfter, edgesTaken}
 use Rattle.compare.specs.Compare.{wrongCompared, listRefusal, sameTable, sameNet, unlike}
 use Rattle.refusal.specs.Verdict.{accepted, refused, judged}
@@ -65,19 +66,19 @@ reaches = 2 ∷ 2 ∷ 2 ∷ 1 ∷ 1 ∷ 0 ∷ []
 
 pub printed : List (Outcome Totals Lent)
 printed =
-    ended (accepted (totals 2 1))
+    ended (accepted (totals 2 1 (share 3 0 2)))
     (cleared-with
     (written
     (divisionOf (3 ∷ 2 ∷ 4 ∷ 2 ∷ 2 ∷ 2 ∷ []) (2 ∷ 5 ∷ 2 ∷ 5 ∷ 5 ∷ 5 ∷ []) (0 ∷ 1 ∷ 0 ∷ 1 ∷ 1 ∷ 1 ∷ []) (4 ∷ 2 ∷ []))
     (0 ∷ 0 ∷ 1 ∷ 1 ∷ 0 ∷ 0 ∷ []) reaches (1 ∷ 1 ∷ 1 ∷ 1 ∷ 2 ∷ 1 ∷ []) (3 ∷ 2 ∷ 3 ∷ 1 ∷ 2 ∷ 1 ∷ []))
     whole)
-    ∷ ended (accepted (totals 2 2))
+    ∷ ended (accepted (totals 2 2 (share 3 0 2)))
     (cleared-with
     (written
     (divisionOf (3 ∷ 2 ∷ 1 ∷ 2 ∷ 3 ∷ 3 ∷ []) (0 ∷ 5 ∷ 5 ∷ 5 ∷ 5 ∷ 5 ∷ []) (0 ∷ 1 ∷ 1 ∷ 1 ∷ 1 ∷ 1 ∷ []) (3 ∷ 3 ∷ []))
     (0 ∷ 0 ∷ 1 ∷ 1 ∷ 1 ∷ 0 ∷ []) reaches (1 ∷ 1 ∷ 2 ∷ 1 ∷ 2 ∷ 1 ∷ []) (3 ∷ 2 ∷ 2 ∷ 1 ∷ 2 ∷ 1 ∷ []))
     whole)
-    ∷ ended (accepted (totals 2 0))
+    ∷ ended (accepted (totals 2 0 (share 6 0 1)))
     (cleared-with
     (written
     (divisionOf (3 ∷ 2 ∷ 4 ∷ 2 ∷ 2 ∷ 2 ∷ []) (2 ∷ 5 ∷ 2 ∷ 5 ∷ 5 ∷ 5 ∷ []) (replicate 6 0) (6 ∷ []))
@@ -89,5 +90,5 @@ printed =
     ∷ []
 
 pub paper : computed ≡ printed
-unfolding computed printed whole own other sevens given-tables given-all cleared-with reaches reportOutcome reportRefusal earlyRefusal unlike wrongCompared listRefusal wrongLent wrongFigures figures first given unless badCount wrongLength odd fault firstFault damaged damagedBy sound badWork cleared zeros badLimits tooHeavy wrongTables divided judged sameNet sameTable netOf reach edgeBlocks edgeBlock lower blockCount different blocksAt edgesTaken takenAfter allMet filtered touches bound boundOf isCut volume volumeOf totalsOf tabulate sum count member edges
+unfolding computed printed whole own other sevens given-tables given-all cleared-with reaches reportOutcome reportRefusal earlyRefusal unlike wrongCompared listRefusal wrongLent wrongFigures figures first given unless badCount wrongLength odd fault firstFault damaged damagedBy sound badWork cleared zeros badLimits tooHeavy wrongTables divided judged sameNet sameTable netOf reach edgeBlocks edgeBlock lower blockCount different blocksAt edgesTaken takenAfter allMet filtered touches bound boundOf isCut volume volumeOf shareOf evenShare totalsOf tabulate sum count member edges
 paper = refl

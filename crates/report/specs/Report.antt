@@ -5,6 +5,7 @@
 -- given." Refusals, in order: 1, 2, 8, 30, 4 or 5, 20, 22, 23. "The answer is the number alone and every table stays as it was, but
 -- after 23, or a refusal ordered after it, the comparison tables hold what the ties gave."
 -- Document 02, Paper 3: "Report writes one more table of n: for each rank, how many of its ties, in list order, the count took".
+-- Paper 4: "Report should answer the even share".
 -- 30 and 22 look at the net, never at the comparison tables; 20 counts the edges of the list alone.
 -- The work tables end as zeros where the comparison was made, at 23 as at acceptance, and stay as they were at every other refusal.
 -- Assumes nothing.

@@ -65,9 +65,9 @@ fn early_refusal(
 }
 
 // Divides a net and reports what the division costs, given the net's own edges. Beside Divide's tables it writes the block of each
-// edge, and of each vertex the reach, the block count and how many of its edges that took, and answers the bound and the volume. The comparison tables end holding the net
-// of the edges. The work tables take n, n and n + m entries for n vertices and m edges, and end as zeros. A refused call leaves every
-// table as it was, but for these five after 23.
+// edge, and of each vertex the reach, the block count and how many of its edges that took, and answers the bound, the volume and the even
+// share. The comparison tables end holding the net of the edges. The work tables take n, n and n + m entries for n vertices and m edges,
+// and end as zeros. A refused call leaves every table as it was, but for these five after 23.
 pub fn report(
     parents: &[u32],
     weights: &[u32],

@@ -11,12 +11,13 @@ use Rattle.game.specs.Net.{owner, charge, weight, weights, netOf, reach}
 use Rattle.refusal.specs.Refusal.{given, first, unless, wrongLength, fault, firstFault}
 use Rattle.relabel.specs.Relabel.{badOrder, relabelled}
 use Rattle.partition.specs.Divide.{badLimits, tooHeavy, divided}
-use Rattle.cost.specs.Figures.{edgeBlock, edgeBlocks, touches, blocksAt, different, blockCount, isCut, bound, volume, boundOf, volumeOf, totalsOf}
+use Rattle.sharing.specs.Share.{evenShare}
+use Rattle.cost.specs.Figures.{edgeBlock, edgeBlocks, touches, blocksAt, different, blockCount, isCut, bound, volume, boundOf, volumeOf, shareOf, totalsOf}
 use Rattle.writing.specs.Written.{figures}
 use Rattle.words.specs.Word.{bytesOf, words, wordAt}
 use Rattle.decimal.specs.Ascii.{ascii}
 use Rattle.decimal.specs.Decimal.{decimal}
-use Rattle.printing.specs.Lines.{refusedText, spaced, newlined, parentText, lineText, rankText, linesBelow, totalsText}
+use Rattle.printing.specs.Lines.{refusedText, spaced, newlined, parentText, lineText, rankText, linesBelow, shareText, totalsText}
 use Rattle.files.specs.Files.{files, vertexCount, edgeCount, order, edgeList, limit, blocks}
 use Rattle.files.specs.Refused.{tooMany, partRecord, notRecords, fileRefusal}
 use Rattle.run.specs.Run.{rankedEdges, runNet, runRefusal}
@@ -60,23 +61,23 @@ printed =
     ++ ascii "3 2 4 0 1 5 1 1\n"
     ++ ascii "4 4 5 0 1 5 1 2\n"
     ++ ascii "5 5 - 0 0 5 1 1\n"
-    ++ ascii "bound 2 volume 1\n")
+    ++ ascii "bound 2 volume 1 share 3 0\n")
     ∷ (ascii "0 3 2 3 2 0 0 1\n"
     ++ ascii "1 0 3 2 2 5 1 1\n"
     ++ ascii "2 1 4 1 2 5 1 2\n"
     ++ ascii "3 2 4 0 1 5 1 1\n"
     ++ ascii "4 4 5 0 1 5 1 2\n"
     ++ ascii "5 5 - 0 0 5 1 1\n"
-    ++ ascii "bound 2 volume 2\n")
+    ++ ascii "bound 2 volume 2 share 3 0\n")
     ∷ (ascii "0 3 2 3 2 2 0 1\n"
     ++ ascii "1 0 3 2 2 5 0 1\n"
     ++ ascii "2 1 4 1 2 2 0 1\n"
     ++ ascii "3 2 4 0 1 5 0 1\n"
     ++ ascii "4 4 5 0 1 5 0 1\n"
     ++ ascii "5 5 - 0 0 5 0 1\n"
-    ++ ascii "bound 2 volume 0\n")
+    ++ ascii "bound 2 volume 0 share 6 0\n")
     ∷ ascii "refused 22\n"
-    ∷ (ascii "0 0 - 0 0 0 0 0\n" ++ ascii "bound 0 volume 0\n")
+    ∷ (ascii "0 0 - 0 0 0 0 0\n" ++ ascii "bound 0 volume 0 share 0 0\n")
     ∷ []
 
 -- No vertex, and part of one, with anything; more than 1,000 vertices; more than 4,000 edges; part of a record behind 1,000 vertices,
@@ -98,7 +99,7 @@ refusedRuns =
     ∷ []
 
 pub paper : computed ≡ printed
-unfolding computed printed marks ties want zeros ascii decimal runText runRefusal fileRefusal tooMany partRecord notRecords rankedEdges runNet vertexCount edgeCount order edgeList limit blocks refusedText spaced newlined parentText lineText rankText linesBelow totalsText reportText decidedText words wordAt bytesOf unless first given wrongLength badOrder badLimits firstFault edges fault tooHeavy netOf relabelled figures reach divided lower owner charge weight weights edgeBlocks edgeBlock blockCount different blocksAt filtered touches bound boundOf isCut volume volumeOf totalsOf tabulate sum count member
+unfolding computed printed marks ties want zeros ascii decimal runText runRefusal fileRefusal tooMany partRecord notRecords rankedEdges runNet vertexCount edgeCount order edgeList limit blocks refusedText spaced newlined parentText lineText rankText linesBelow shareText totalsText reportText decidedText words wordAt bytesOf unless first given wrongLength badOrder badLimits firstFault edges fault tooHeavy netOf relabelled figures reach divided lower owner charge weight weights edgeBlocks edgeBlock blockCount different blocksAt filtered touches bound boundOf isCut volume volumeOf shareOf evenShare totalsOf tabulate sum count member
 paper = refl
 
 pub refused : refusedRuns ≡ 1 ∷ 1 ∷ 2 ∷ 2 ∷ 6 ∷ 6 ∷ 6 ∷ 3 ∷ 8 ∷ 8 ∷ 4 ∷ 5 ∷ []

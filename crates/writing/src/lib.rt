@@ -52,8 +52,8 @@ fn divide_and_reach(
     cut_and_pack(parents, weights, limit, carried, top, block, block_loads);
 }
 
-// Writes all that a report says of a net, and answers its bound and its volume. The edges are filed in the work tables, which end as
-// zeros.
+// Writes all that a report says of a net, and answers its bound, its volume and the even share. The edges are filed in the work tables,
+// which end as zeros.
 pub fn write_report(
     parents: &[u32],
     weights: &[u32],
@@ -108,5 +108,10 @@ pub fn write_report(
     growth::clear(ends, jump, lower, 0);
     let bound = cost::bound(parents, top, reach);
     let volume = cost::volume(block_count);
-    Totals { bound, volume }
+    let share = sharing::even_share(block_loads);
+    Totals {
+        bound,
+        volume,
+        share,
+    }
 }

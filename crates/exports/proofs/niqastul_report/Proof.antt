@@ -49,7 +49,7 @@ same-length-13 : tie.Need-same-length-13
 same-length-13 c = search needs
 
 returns : tie.Need-returns
-returns c = filled-as _ _ (c .hand-totals .ensures .0) (c .hand-totals .ensures .1) (c .before .before .before .before .before .before .before .before .before .before .before .before .before .before .before .before .before .before .before .before .before .before .before .before .before .before .before .before .before .report .ensures)
+returns c = filled-as _ _ (c .hand-totals .ensures .0) (c .hand-totals .ensures .1) (c .before .before .before .before .before .before .before .before .before .before .before .before .before .before .before .before .before .before .before .before .before .before .before .before .before .before .before .before .before .before .before .report .ensures)
 
 pub niqastul-report-spec : {M : Type 1} → statement M
 niqastul-report-spec =

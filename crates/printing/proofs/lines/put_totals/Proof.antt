@@ -1,9 +1,9 @@
+use Rattle.decimal.specs.Ascii.{ascii}
+use Rattle.decimal.proofs.Runs.{put-on}
+use Rattle.printing.specs.Lines.{spaced, totalsText}
 use borrow.Author.Needs.{needs}
 use Rattle.printing.proofs.lines.put_totals.Statement.{statement}
 use Rattle.printing.proofs.lines.put_totals.Tie as tie
-use Rattle.decimal.specs.Ascii.{ascii}
-use Rattle.decimal.proofs.Runs.{put-on}
-use Rattle.printing.specs.Lines.{spaced, newlined, totalsText}
 
 slice-aggregate-put-text : tie.Need-slice-aggregate-put-text
 slice-aggregate-put-text c = search needs
@@ -23,12 +23,15 @@ put-text-requires-2 c κs = search needs
 put-figure-requires-2 : tie.Need-put-figure-requires-2
 put-figure-requires-2 c κs = search needs
 
+put-share-requires : tie.Need-put-share-requires
+put-share-requires c κs = search needs
+
 same-length : tie.Need-same-length
 same-length c = search needs
 
 returns : tie.Need-returns
-unfolding totalsText spaced newlined ascii
-returns c = put-on (put-on (put-on (c .before .before .before .before .before .before .before .before .before .before .before .before .before .before .before .put-text .ensures) (c .before .before .before .before .before .before .before .before .before .before .before .put-figure .ensures .0)) (c .before .before .before .before .before .before .put-text2 .ensures)) (c .before .before .put-figure2 .ensures .0)
+unfolding totalsText spaced ascii
+returns c = put-on (put-on (put-on (put-on (c .before .before .before .before .before .before .before .before .before .before .before .before .before .before .before .before .before .before .before .put-text .ensures) (c .before .before .before .before .before .before .before .before .before .before .before .before .before .before .before .put-figure .ensures .0)) (c .before .before .before .before .before .before .before .before .before .before .put-text2 .ensures)) (c .before .before .before .before .before .before .put-figure2 .ensures .0)) (c .before .before .put-share .ensures)
 
 pub put-totals-spec : {M : Type 1} → statement M
 put-totals-spec =
@@ -40,5 +43,6 @@ put-totals-spec =
     slice-aggregate-put-text-2
     put-text-requires-2
     put-figure-requires-2
+    put-share-requires
     same-length
     returns)

@@ -1,0 +1,2 @@
+-- The even share of a total.
+pub mod Share
