@@ -23,7 +23,7 @@ use Rattle.growth.specs.Work.{withWork, workOf, cleared}
 use Rattle.growth.proofs.Rooms.{same-room}
 use Rattle.adding.specs.Add.{grown}
 use Rattle.rising.specs.Rising.{Takable}
-use Rattle.inserting.specs.Putting.{Extendable, Weighable, Extends}
+use Rattle.inserting.specs.Extending.{Extendable, Weighable, Extends}
 use Rattle.inserting.proofs.First.{first-links, list-weighs}
 use Rattle.adding.specs.Steps.{RisingFirst}
 use Rattle.adding.proofs.Accepted.{Addable}

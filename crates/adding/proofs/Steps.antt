@@ -18,7 +18,8 @@ use Rattle.refusal.specs.Refusal.{given, first, firstFault}
 use Rattle.refusal.specs.Verdict.{refused}
 use Rattle.refusal.specs.Outcome.{ended}
 use Rattle.refusal.proofs.Ends.{ends-refused}
-use Rattle.bucket.specs.Steps.{upperCounts, CountsUpper}
+use Rattle.bucket.specs.Steps.{upperCounts}
+use Rattle.tally.specs.Steps.{CountsUpper}
 use Rattle.growth.specs.Work.{NetWithWork, withWork, workOf, badWork}
 use Rattle.growth.proofs.Rooms.{good-work}
 use Rattle.rising.proofs.Rising.{rises-faultless}

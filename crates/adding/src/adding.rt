@@ -12,8 +12,6 @@ ghost use Rattle.growth.specs.Work.{withWork, workOf};
 ghost use Rattle.moving.specs.Answer.{verdict};
 ghost use Rattle.refusal.specs.Outcome.{ended};
 ghost use Rattle.adding.specs.Add.{addOutcome};
-ghost use Rattle.refusal.specs.Verdict.{accepted as acceptedWith};
-ghost use Rattle.moving.specs.Steps.{movedAt};
 ghost use Rattle.adding.specs.Steps.{TablesRead, ListRead, RisingFirst};
 
 // What the tables tell before the list is read: the number for which adding is refused; or 0, and whether the list is too heavy for the
@@ -66,7 +64,7 @@ fn read_list(edges: &[u32], ends: &mut [u32], heavy: bool, counted: bool) -> u32
     ensures { λ r. ⌜ ListRead (now (edges .entry)) heavy counted (now (ends .entry)) (now (ends .exit)) r ⌝ }
 {
     if counted {
-        return bucket::count_upper(edges, ends);
+        return tally::count_upper(edges, ends);
     }
     let fault = refusal::list_fault(ends.len(), edges);
     if fault != 0 {
@@ -88,14 +86,6 @@ fn is_rising_first(parents: &[u32], edges: &[u32], counted: bool) -> bool
         }
     }
     false
-}
-
-// The answer of an accepted addition, by the lowest vertex that moved.
-fn accepted(lowest: u32) -> GrowthAnswer
-    ensures { λ r. ⌜ verdict r ≡ acceptedWith (movedAt lowest) ⌝ }
-{
-    let moved = moving::moved_at(lowest);
-    GrowthAnswer::Accepted(moved)
 }
 
 // Adds a list of edges to a net, as a whole or not at all: the parents become those of the elimination game on the old links and the
@@ -121,12 +111,12 @@ pub fn add(
     let counted = long & !found.heavy;
     if is_rising_first(parents, edges, counted) {
         let lowest = rising::grow_list(parents, weights, edges, ends, jump, lower);
-        return accepted(lowest);
+        return moving::accepted(lowest);
     }
     let code = read_list(edges, ends, found.heavy, counted);
     if code != 0 {
         return GrowthAnswer::Refused(code);
     }
     let lowest = inserting::extend(parents, weights, edges, ends, jump, lower, counted);
-    accepted(lowest)
+    moving::accepted(lowest)
 }

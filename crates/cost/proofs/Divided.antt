@@ -9,7 +9,7 @@ use Rattle.game.specs.Table.{tabulate}
 use Rattle.game.specs.Edge.{Edge, lower}
 use Rattle.game.specs.Net.{Net}
 use Rattle.game.proofs.Tables.{tabulate-entry, tabulate-ext}
-use Rattle.groups.specs.Cut.{cut, top}
+use Rattle.trimming.specs.Cut.{cut, top}
 use Rattle.packing.specs.Pack.{blockOf}
 use Rattle.partition.specs.Divide.{divided}
 use Rattle.packing.proofs.BlockLoads.{block-inside}

@@ -14,7 +14,7 @@ use Rattle.game.specs.Table.{tabulate}
 use Rattle.game.specs.Edge.{Edge, _─_, lower}
 use Rattle.game.specs.Graph.{forth, Proper}
 use Rattle.game.specs.Game.{forest}
-use Rattle.game.specs.Net.{Net, owner, weight, weights, charges, total, netOf}
+use Rattle.game.specs.Net.{Net, owner, weight, charges, total, netOf}
 use Rattle.game.proofs.Proper.{proper-nil, proper-append}
 use Rattle.game.proofs.Weights.{weights-entry, weights-charges, charges-append, charges-count}
 use Rattle.game.proofs.Forest.{forest-length}
@@ -26,16 +26,17 @@ use Rattle.refusal.proofs.Fault.{proper-faultless}
 use Rattle.growth.specs.Work.{NetWithWork, withWork, badWork}
 use Rattle.starting.specs.Start.{startRefusal, startOutcome}
 use Rattle.adding.specs.Add.{grown, addRefusal, addOutcome}
-use Rattle.joining.specs.Join.{joinRefusal, joinOutcome}
-use Rattle.joining.proofs.Accepted.{Joinable}
+use Rattle.joinable.specs.Refused.{joinRefusal}
+use Rattle.joining.specs.Join.{joinOutcome}
+use Rattle.joinable.proofs.Accepted.{Joinable}
 use Rattle.adding.proofs.Accepted.{Addable}
 use Rattle.growth.proofs.Whole.{room}
 use Rattle.forest.proofs.Passes.{start-passes, add-passes, join-passes}
 use Rattle.forest.proofs.Promise.{net-valid, valid-whole}
 use Rattle.forest.proofs.Laws.{grown-net, joined-net}
 use Rattle.partition.specs.Divide.{divided}
-use Rattle.groups.specs.Steps.{Divisible}
-use Rattle.groups.proofs.Lists.{stretch, stretch-in, sum-agree}
+use Rattle.trimming.specs.Steps.{Divisible}
+use Rattle.trimming.proofs.Lists.{stretch, stretch-in, sum-agree}
 use Rattle.groups.proofs.Sums.{only, total-filtered, total as sumOver}
 use Rattle.partition.proofs.Laws.{block-load}
 use Rattle.cost.specs.Figures.{edgeBlock}

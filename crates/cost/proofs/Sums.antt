@@ -11,7 +11,7 @@ use native.Mathlib.Omega.{arith}
 use lib.Dec.{eqb}
 use borrow.Author.Tests.{eq-eqb, ne-eqb}
 use Rattle.game.specs.Table.{tabulateFrom, tabulate, sum, member, one-if, count}
-use Rattle.groups.proofs.Lists.{stretch, stretch-in, sum-nought}
+use Rattle.trimming.proofs.Lists.{stretch, stretch-in, sum-nought}
 use Rattle.groups.proofs.Sums.{only, total, total-add, total-here, total-elsewhere}
 
 from-total : (a k : ℕ) (f : ℕ → ℕ) → sum (tabulateFrom a k f) ≡ total (stretch a k) f

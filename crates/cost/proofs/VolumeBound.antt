@@ -30,8 +30,8 @@ use Rattle.game.proofs.Links.{link-inv}
 use Rattle.game.proofs.Forest.{forest-length, forest-sound}
 use Rattle.game.proofs.Ancestors.{ancestor-above, edge-ends}
 use Rattle.refusal.specs.Limits.{maxVertices}
-use Rattle.groups.specs.Cut.{top}
-use Rattle.groups.proofs.Lists.{test-cases, stretch, stretch-in, in-stretch, sum-entry-in, sum-nought}
+use Rattle.trimming.specs.Cut.{top}
+use Rattle.trimming.proofs.Lists.{test-cases, stretch, stretch-in, in-stretch, sum-entry-in, sum-nought}
 use Rattle.groups.proofs.Sums.{only, total, total-add, total-swap}
 use Rattle.groups.proofs.Groups.{top-or, top-cut, top-of, top-between}
 use Rattle.reach.proofs.Higher.{linked-enters}

@@ -1,4 +1,5 @@
-// What a division costs: the block of each edge, and the bound and the volume of communication between the blocks.
+// What a division costs: the block of each edge, the bound and the volume of communication between the blocks, and beside them the even
+// share of a block.
 use sharing::Share;
 use table::wide;
 ghost use mathlib.Core.Path.{_≡_};
@@ -6,14 +7,34 @@ ghost use lib.ListN.{length};
 ghost use Rattle.game.specs.Edge.{edges as edgesOf};
 ghost use Rattle.refusal.specs.Refusal.{firstFault};
 ghost use Rattle.cost.specs.Figures.{edgeBlocks};
-pub use summing::bound;
-pub use summing::volume;
+ghost use Rattle.cost.specs.Steps.{ReportTables, summed};
 
 // What a report answers of a division: the bound and the volume of communication, and the even share of a block.
 pub struct Totals {
     pub bound: u64,
     pub volume: u64,
     pub share: Share,
+}
+
+// Sums the tables of a report up.
+pub fn sum_up(
+    parents: &[u32],
+    top: &[u32],
+    reach: &[u32],
+    block_count: &[u32],
+    block_loads: &[u32],
+) -> Totals
+    requires { ⌜ ReportTables (now parents) (now top) (now reach) (now «block_count») (now «block_loads») ⌝ }
+    ensures { λ r. ⌜ r ≡ summed (now (parents .entry)) (now (top .entry)) (now (reach .entry)) (now («block_count» .entry)) (now («block_loads» .entry)) ⌝ }
+{
+    let bound = summing::bound(parents, top, reach);
+    let volume = summing::volume(block_count);
+    let share = sharing::even_share(block_loads);
+    Totals {
+        bound,
+        volume,
+        share,
+    }
 }
 
 // Writes the block of each edge: that of its lower end.

@@ -23,8 +23,9 @@ use Rattle.growth.specs.Work.{NetWithWork}
 use Rattle.growth.proofs.Whole.{Whole}
 use Rattle.adding.specs.Add.{grown, addRefusal, addOutcome}
 use Rattle.adding.proofs.Accepted.{addable}
-use Rattle.joining.specs.Join.{joined, joinRefusal, joinOutcome}
-use Rattle.joining.proofs.Accepted.{joinable}
+use Rattle.joinable.specs.Refused.{joinRefusal}
+use Rattle.joining.specs.Join.{joined, joinOutcome}
+use Rattle.joinable.proofs.Accepted.{joinable}
 
 -- of a net that is whole, with further edges
 forest-followed : {of : Net} → Whole of → (es : List Edge) → let p : List ℕ = of .parents in let q : List ℕ = forest (length p) (links p ++ es) in Followed (movedFrom 0 p q) p q

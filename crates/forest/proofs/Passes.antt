@@ -18,8 +18,8 @@ use Rattle.net.specs.Damage.{damaged, damagedBy}
 use Rattle.growth.specs.Work.{Work, NetWithWork, badWork}
 use Rattle.starting.specs.Start.{startRefusal}
 use Rattle.adding.specs.Add.{addRefusal}
-use Rattle.joining.specs.Join.{joinRefusal}
-use Rattle.joining.proofs.Accepted.{Joinable}
+use Rattle.joinable.specs.Refused.{joinRefusal}
+use Rattle.joinable.proofs.Accepted.{Joinable}
 use Rattle.adding.proofs.Accepted.{Addable}
 use Rattle.starting.proofs.Accepted.{Startable}
 use Rattle.growth.proofs.Whole.{Whole, Room}

@@ -30,9 +30,10 @@ use Rattle.sorting.proofs.Tallied.{zip-length}
 use Rattle.growth.specs.Work.{NetWithWork}
 use Rattle.starting.specs.Start.{startRefusal, startOutcome}
 use Rattle.adding.specs.Add.{grown, addRefusal, addOutcome}
-use Rattle.joining.specs.Join.{joined, joinRefusal, joinOutcome}
+use Rattle.joinable.specs.Refused.{joinRefusal}
+use Rattle.joining.specs.Join.{joined, joinOutcome}
 use Rattle.forest.specs.Promise.{Valid}
-use Rattle.joining.proofs.Accepted.{joinable}
+use Rattle.joinable.proofs.Accepted.{joinable}
 use Rattle.adding.proofs.Accepted.{addable}
 use Rattle.starting.proofs.Accepted.{startable}
 use Rattle.growth.proofs.Whole.{Whole}

@@ -13,9 +13,9 @@ use Rattle.game.specs.Table.{tabulate}
 use Rattle.game.specs.Game.{absent}
 use Rattle.game.proofs.Sound.{Sound}
 use Rattle.game.proofs.Tables.{tabulate-unique}
-use Rattle.groups.specs.Cut.{top}
-use Rattle.groups.specs.Steps.{Hanging, Tops, holder}
-use Rattle.groups.proofs.Lists.{test-cases}
+use Rattle.trimming.specs.Cut.{top}
+use Rattle.trimming.specs.Steps.{Hanging, Tops, holder}
+use Rattle.trimming.proofs.Lists.{test-cases}
 use Rattle.groups.proofs.Ranks.{holder-up, holder-cut, holder-root}
 use Rattle.groups.proofs.Groups.{parent-higher, top-root, top-cut, top-up}
 

@@ -15,10 +15,10 @@ use Rattle.game.specs.Table.{sum}
 use Rattle.game.specs.Game.{absent}
 use Rattle.game.specs.Tree.{climb, ancestors}
 use Rattle.game.proofs.Sound.{Sound}
-use Rattle.groups.specs.Cut.{children, carries, climbTo, top, isTop, groupWeight}
-use Rattle.groups.proofs.Lists.{test-cases, stretch, stretch-in, sum-agree, sum-nought}
+use Rattle.trimming.specs.Cut.{children, carries, climbTo, top, isTop, groupWeight}
+use Rattle.trimming.proofs.Lists.{test-cases, stretch, stretch-in, sum-agree, sum-nought}
 use Rattle.groups.proofs.Sums.{only, total, total-add, total-filtered, total-swap, total-here, total-elsewhere, total-table}
-use Rattle.groups.proofs.Carried.{entry, Carrying, uncutUnder}
+use Rattle.trimming.proofs.Carried.{entry, Carrying, uncutUnder}
 
 -- the top of x is x or an ancestor of x
 pub top-or : (p : List ℕ) (cuts : ℕ → Bool) (x : ℕ) → (top p cuts x ≡ x) ⊎ List·Memᴰ (top p cuts x) (ancestors p x)

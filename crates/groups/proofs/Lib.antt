@@ -1,13 +1,6 @@
 -- Laws of cutting, by subject. Nothing here needs to be believed: it is all proved.
-pub mod Lists
-pub mod Best
-pub mod Trimming
-pub mod Carried
 pub mod Sums
 pub mod Groups
-pub mod Chains
-pub mod Scan
-pub mod Turns
 pub mod Halving
 pub mod Filing
 pub mod Lightening

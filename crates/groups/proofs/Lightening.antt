@@ -10,16 +10,16 @@ use lib.ListN.{length, getD}
 use borrow.Author.Tests.{eq-eqb, eqb-true}
 use Rattle.game.specs.Game.{absent}
 use Rattle.refusal.specs.Limits.{maxTotal}
-use Rattle.groups.specs.Cut.{carries}
+use Rattle.trimming.specs.Cut.{carries}
 use Rattle.game.specs.Table.{filtered}
-use Rattle.groups.specs.Steps.{Chain, end, node, hanging, classOf, leastOf, floorOf, Loaded, Candidates, Due, Trimmed, Listed, Children, classIn, InClasses, Lightened}
-use Rattle.groups.proofs.Lists.{filtered-in, in-filtered, rising-filtered, sum-nought, sum-within, sum-entry-in}
-use Rattle.groups.proofs.Trimming.{trim-done}
-use Rattle.groups.proofs.Carried.{entry, below-in, below-rising}
-use Rattle.groups.proofs.Chains.{chain-same, chain-none, falling-under}
+use Rattle.trimming.specs.Steps.{Chain, end, node, hanging, classOf, leastOf, floorOf, Loaded, Candidates, Due, Trimmed, Listed, Children, classIn, InClasses, Lightened}
+use Rattle.trimming.proofs.Lists.{filtered-in, in-filtered, rising-filtered, sum-nought, sum-within, sum-entry-in}
+use Rattle.trimming.proofs.Trimming.{trim-done}
+use Rattle.trimming.proofs.Carried.{entry, below-in, below-rising}
+use Rattle.trimming.proofs.Chains.{chain-same, chain-none, falling-under}
 use Rattle.groups.proofs.Halving.{class-within, class-least, class-floor, floor-class, class-mono, floor-none}
 use Rattle.groups.proofs.Filing.{ofClass}
-use Rattle.groups.proofs.Turns.{released-none, released-hung}
+use Rattle.trimming.proofs.Turns.{released-none, released-hung}
 
 -- Where the trimming stands: what is left fits, or only children of classes below `class` still hang on x; it was right to cut the others.
 pub record Lighter (x weight B last : ℕ) (carried was link : List ℕ) (class left : ℕ) : Type 0 where

@@ -18,13 +18,13 @@ use Rattle.game.specs.Game.{absent}
 use Rattle.game.proofs.Sound.{Sound, sound-true, getD-default}
 use Rattle.game.proofs.Tables.{member-in, in-member, sum-drop, sum-zeros, sum-drop-set, sum-drop-entry}
 use Rattle.refusal.specs.Limits.{maxTotal}
-use Rattle.groups.specs.Cut.{childrenBelow, children, carries, trim, kept, carried, cut}
-use Rattle.groups.specs.Steps.{Divisible, Chain, end, node, Falling, none, less, hanging, Loaded, Children, Lightened, holder, Cuts}
-use Rattle.groups.proofs.Lists.{test-cases, filtered-in, in-filtered, filtered-take, filtered-leave, rising-ext, stretch, sum-agree, sum-within}
-use Rattle.groups.proofs.Trimming.{carries-agree, trim-agree}
-use Rattle.groups.proofs.Carried.{entry, below-in, in-below, below-rising, children-in, in-children, children-rising, child-lower, kept-in, kept-step, cut-child, carried-size, carried-fits}
-use Rattle.groups.proofs.Chains.{chain-agree, chain-set}
-use Rattle.groups.proofs.Turns.{released-hung}
+use Rattle.trimming.specs.Cut.{childrenBelow, children, carries, trim, kept, carried, cut}
+use Rattle.trimming.specs.Steps.{Divisible, Chain, end, node, Falling, none, less, hanging, Loaded, Children, Lightened, holder, Cuts}
+use Rattle.trimming.proofs.Lists.{test-cases, filtered-in, in-filtered, filtered-take, filtered-leave, rising-ext, stretch, sum-agree, sum-within}
+use Rattle.trimming.proofs.Trimming.{carries-agree, trim-agree}
+use Rattle.trimming.proofs.Carried.{entry, below-in, in-below, below-rising, children-in, in-children, children-rising, child-lower, kept-in, kept-step, cut-child, carried-size, carried-fits}
+use Rattle.trimming.proofs.Chains.{chain-agree, chain-set}
+use Rattle.trimming.proofs.Turns.{released-hung}
 use Rattle.groups.proofs.Sums.{only, total, total-filtered, total-grown}
 
 -- the ranks below m, the highest first

@@ -13,7 +13,7 @@ use lib.Dec.{eqb}
 use lib.ListN.{length, getD}
 use borrow.Author.Tests.{eq-eqb, ne-eqb}
 use Rattle.game.specs.Table.{tabulateFrom, sum, filtered}
-use Rattle.groups.proofs.Lists.{test-cases, filtered-take, filtered-leave, stretch, stretch-in, sum-nought}
+use Rattle.trimming.proofs.Lists.{test-cases, filtered-take, filtered-leave, stretch, stretch-in, sum-nought}
 
 -- v if the test holds, else 0
 abbrev pub only : Bool → ℕ → ℕ

@@ -1,28 +1,18 @@
 -- The lowest vertex that moved, step by step of a climb.
 -- Assumes nothing.
-use mathlib.Core.Path.{_≡_, refl, sym, ap, subst, _∙_}
+use mathlib.Core.Path.{_≡_, refl, sym, subst, _∙_}
 use mathlib.Core.Logic.{_≢_, inl, inr, ⊎-elim, by-cases}
-use mathlib.Core.Bool.{Bool, cond}
 use mathlib.Core.List.{List}
 use Prim.Native.Nat.{ℕ, _<_, min}
 use native.Mathlib.Decide.{ℕ-discrete}
 use native.Mathlib.Omega.{arith}
 use lib.ListN.{length, getD, set, length-set}
 use lib.Seq.{getD-set-same, getD-set-other}
-use borrow.Author.Tests.{eq-eqb, ne-eqb}
 use Rattle.game.specs.Game.{absent}
 use Rattle.game.proofs.Sound.{getD-default}
-use Rattle.moving.specs.Steps.{Differ}
-use Rattle.growth.specs.Moves.{movedWith, Tracks, Moves}
-
--- a parent that is as it was, and one that is not
-pub moved-same : (m w : ℕ) {old y : ℕ} → old ≡ y → movedWith m w old y ≡ m
-unfolding movedWith
-moved-same m w {old} {y} e = ap (λ (b : Bool). cond b m (min m w)) (eq-eqb old y e)
-
-pub moved-other : (m w : ℕ) {old y : ℕ} → old ≢ y → movedWith m w old y ≡ min m w
-unfolding movedWith
-moved-other m w {old} {y} d = ap (λ (b : Bool). cond b m (min m w)) (ne-eqb old y d)
+use Rattle.moving.specs.Steps.{Differ, movedWith}
+use Rattle.moving.proofs.Linked.{moved-same, moved-other}
+use Rattle.growth.specs.Moves.{Tracks, Moves}
 
 pub moves-none : (p jump : List ℕ) (m : ℕ) → Moves p jump m p jump m
 moves-none p jump m = record { tracks = λ was t. t }

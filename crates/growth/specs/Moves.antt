@@ -3,17 +3,11 @@
 -- A vertex that has no jump yet has its old parent; where it is linked, and never again, its new parent is seen beside the old one.
 -- Assumes nothing.
 use mathlib.Core.Path.{_≡_}
-use mathlib.Core.Bool.{cond}
 use mathlib.Core.List.{List}
-use Prim.Native.Nat.{ℕ, min}
-use lib.Dec.{eqb}
+use Prim.Native.Nat.{ℕ}
 use lib.ListN.{length, getD}
 use Rattle.game.specs.Game.{absent}
 use Rattle.moving.specs.Steps.{Differ}
-
--- the lowest vertex that moved, of those so far and w, whose parent was old and is y
-unfoldable pub movedWith : (moved w old y : ℕ) → ℕ
-movedWith moved w old y = cond (eqb old y) moved (min moved w)
 
 -- m is the lowest vertex that moved since the parents were `was`; vertices without a jump have not
 pub record Tracks (was p jump : List ℕ) (m : ℕ) : Type 0 where

@@ -5,27 +5,13 @@ ghost use mathlib.Core.Path.{_≡_};
 ghost use mathlib.Core.Bool.{cond};
 ghost use mathlib.Core.List.{[], _∷_};
 ghost use Prim.Native.Nat.{ℕ, _+_, _^_, _<_, _≤_};
-ghost use lib.ListN.{length, getD, set, take, replicate};
+ghost use lib.ListN.{length, getD, take, replicate};
 ghost use Rattle.game.specs.Game.{absent};
 ghost use Rattle.refusal.specs.Limits.{maxVertices};
 ghost use Rattle.moving.specs.Steps.{Differ};
-ghost use Rattle.growth.specs.Moves.{movedWith, Moves};
+ghost use Rattle.growth.specs.Moves.{Moves};
 ghost use Rattle.growth.specs.Work.{workOf, cleared};
 ghost use Rattle.growth.specs.Growth.{Upward, Connects, Weighs, Light, Gathers, Blank, Raises, Growable, Grows, GrowsKept, Regrows};
-
-// Makes y the parent of w, which has the parent from before still. Answers the lowest vertex that moved, of those so far and w.
-fn link(w: u32, y: u32, parents: &mut [u32], moved: u32) -> u32
-    requires { ⌜ w < length (now parents) ⌝ }
-    ensures { λ r. ⌜ (now (parents .exit) ≡ set (now (parents .entry)) w y) × (r ≡ movedWith moved w (getD (now (parents .entry)) w 0) y) ⌝ }
-{
-    let at = w as usize;
-    let old = parents[at];
-    parents[at] = y;
-    if old == y {
-        return moved;
-    }
-    moving::lower(moved, w)
-}
 
 // Makes the root of u's tree a child of y, and every vertex on the way jump to y. A vertex jumps higher than it stands, so
 // the climb ends. Answers the lowest vertex that moved so far.
@@ -39,7 +25,7 @@ pub fn climb(u: u32, y: u32, parents: &mut [u32], jump: &mut [u32], moved: u32) 
         let next = jump[at];
         jump[at] = y;
         if next == Net::ABSENT {
-            return link(w, y, parents, moved);
+            return moving::link(w, y, parents, moved);
         }
         w = next;
     }

@@ -27,8 +27,9 @@ use Rattle.moving.specs.Moved.{moved}
 use Rattle.growth.specs.Work.{Work, NetWithWork, withWork, cleared}
 use Rattle.starting.specs.Start.{startRefusal, startOutcome}
 use Rattle.adding.specs.Add.{grown, addRefusal, addOutcome}
-use Rattle.joining.specs.Join.{joined, joinRefusal, joinOutcome}
-use Rattle.joining.proofs.Accepted.{joinable}
+use Rattle.joinable.specs.Refused.{joinRefusal}
+use Rattle.joining.specs.Join.{joined, joinOutcome}
+use Rattle.joinable.proofs.Accepted.{joinable}
 use Rattle.adding.proofs.Accepted.{addable}
 use Rattle.starting.proofs.Accepted.{startable}
 use Rattle.forest.proofs.Laws.{grown-net, joined-net}

@@ -14,7 +14,8 @@ use Rattle.moving.specs.Followed.{reread, Followed}
 use Rattle.growth.specs.Work.{NetWithWork, withWork}
 use Rattle.starting.specs.Start.{startRefusal, startOutcome}
 use Rattle.adding.specs.Add.{addRefusal, addOutcome}
-use Rattle.joining.specs.Join.{joinRefusal, joinOutcome}
+use Rattle.joinable.specs.Refused.{joinRefusal}
+use Rattle.joining.specs.Join.{joinOutcome}
 use Rattle.reading.specs.Read.{readRefusal, readOutcome}
 use Rattle.forest.proofs.Followed.{add-followed, join-followed}
 use Rattle.history.specs.World.{World, Call, start, add, join, save, read, relabel, divide, report, index, query, update, step, stepped}

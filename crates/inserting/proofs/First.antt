@@ -12,7 +12,7 @@ use Rattle.game.specs.Game.{absent, forest}
 use Rattle.game.specs.Tree.{links}
 use Rattle.game.proofs.Links.{links-none}
 use Rattle.refusal.specs.Refusal.{firstFault}
-use Rattle.inserting.specs.Putting.{Extendable, Weighable}
+use Rattle.inserting.specs.Extending.{Extendable, Weighable}
 
 -- without old links the edges are all there is
 pub first-links : (E : List Edge) {n : ℕ} {p : List ℕ} → p ≡ replicate (length p) absent → n ≡ length p → forest n E ≡ forest (length p) (links p ++ E)

@@ -1,4 +1,2 @@
-pub mod Exchange
-pub mod Put
-pub mod Lowered
 pub mod First
+pub mod Rest

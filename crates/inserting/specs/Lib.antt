@@ -1,2 +1,2 @@
--- Edges put into a forest.
-pub mod Putting
+-- A list of edges taken into a net.
+pub mod Extending

@@ -1,6 +1,6 @@
 // A list of edges taken into a net: the forest and the weights.
 use crate::growing;
-use crate::putting;
+use crate::inserting;
 ghost use mathlib.Core.Path.{_≡_};
 ghost use mathlib.Core.Bool.{true, false};
 ghost use lib.ListN.{length};
@@ -8,7 +8,7 @@ ghost use Rattle.game.specs.Edge.{edges as edgesOf};
 ghost use Rattle.bucket.specs.Ends.{tallied};
 ghost use Rattle.bucket.specs.Steps.{upperCounts};
 ghost use Rattle.moving.specs.Steps.{Differ};
-ghost use Rattle.inserting.specs.Putting.{Extendable, Extends, Weighable};
+ghost use Rattle.inserting.specs.Extending.{Extendable, Extends, Weighable};
 
 // Makes the parents those of the elimination game on the old links and the edges of the list, raises the weight of each edge's lower
 // end, and clears the work tables. Answers the lowest vertex that moved. The flag says that the edges are counted by upper end: then the
@@ -29,5 +29,5 @@ pub fn extend(
         return growing::grow_counted(parents, weights, edges, ends, jump, lower);
     }
     bucket::tally(weights, edges, false);
-    putting::insert(parents, edges, ends, jump, lower)
+    inserting::insert(parents, edges, ends, jump, lower)
 }

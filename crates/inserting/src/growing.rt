@@ -8,7 +8,7 @@ ghost use Rattle.game.specs.Edge.{edges as edgesOf};
 ghost use Rattle.bucket.specs.Ends.{tallied};
 ghost use Rattle.bucket.specs.Steps.{upperCounts};
 ghost use Rattle.moving.specs.Steps.{Differ};
-ghost use Rattle.inserting.specs.Putting.{Extendable, Extends, Weighable};
+ghost use Rattle.inserting.specs.Extending.{Extendable, Extends, Weighable};
 
 // Grows the forest of the old links and the edges of the list, raises the weight of each edge's lower end, and clears the work tables.
 // Answers the lowest vertex that moved.

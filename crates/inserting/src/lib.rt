@@ -1,7 +1,7 @@
 // A list of edges taken into a net: put in edge by edge, by exchanges, or grown with the whole forest.
 mod extending;
 mod growing;
-mod putting;
+mod inserting;
 
 pub use extending::extend;
-pub use putting::is_long;
+pub use inserting::is_long;

@@ -23,7 +23,7 @@ use Rattle.growth.specs.Growth.{Regrows}
 use Rattle.growth.proofs.NewParents.{links-in}
 use Rattle.growth.proofs.Regrown.{regrown}
 use Rattle.growth.proofs.Rooms.{same-room}
-use Rattle.joining.proofs.Accepted.{Joinable}
+use Rattle.joinable.proofs.Accepted.{Joinable}
 
 module _ {p w q v e j l : List ℕ} (a : Joinable (withWork (net p w) (workOf e j l)) (net q v)) where
   join-proper : Proper (length p) (links p ++ links q)

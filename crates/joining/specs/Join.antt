@@ -2,20 +2,17 @@
 -- together with .. the other net's links"; "joining sums the loads of equal ranks". Joining answers where the first net's forest moved
 -- (document 02, Paper 2).
 -- Assumes nothing.
-use mathlib.Core.List.{List, [], _∷_, _++_, zipWith}
-use Prim.Native.Nat.{ℕ, _+_}
-use lib.Dec.{ltb}
+use mathlib.Core.List.{_++_, zipWith}
+use Prim.Native.Nat.{_+_}
 use lib.ListN.{length}
 use Rattle.game.specs.Game.{forest}
 use Rattle.game.specs.Tree.{links}
-use Rattle.game.specs.Net.{Net, total}
-use Rattle.refusal.specs.Limits.{maxTotal}
-use Rattle.refusal.specs.Refusal.{given, first, badCount, wrongLength}
+use Rattle.game.specs.Net.{Net}
 use Rattle.refusal.specs.Outcome.{Outcome, decided}
-use Rattle.net.specs.Damage.{damaged}
 use Rattle.moving.specs.declared.Moved.{Moved}
 use Rattle.moving.specs.Moved.{moved}
-use Rattle.growth.specs.Work.{NetWithWork, badWork, cleared}
+use Rattle.joinable.specs.Refused.{joinRefusal}
+use Rattle.growth.specs.Work.{NetWithWork, cleared}
 
 -- two nets joined
 unfoldable pub joined : Net → Net → Net
@@ -23,22 +20,6 @@ joined one other = record {
   parents = forest (length (one .parents)) (links (one .parents) ++ links (other .parents));
   weights = zipWith _+_ (one .weights) (other .weights);
 }
-
-unfoldable pub joinRefusal : NetWithWork → Net → ℕ
-joinRefusal g other =
-    let n : ℕ = length (g .net .parents) in
-    let m : ℕ = length (other .parents) in
-    first
-    (given (badCount n) 1
-    ∷ given (badCount m) 1
-    ∷ given (wrongLength (length (g .net .weights)) n) 2
-    ∷ given (wrongLength (length (other .weights)) m) 2
-    ∷ given (badWork n (n + m) (g .work)) 2
-    ∷ given (wrongLength m n) 21
-    ∷ given (damaged (g .net)) 30
-    ∷ given (damaged other) 30
-    ∷ given (ltb maxTotal (total (g .net) + total other)) 20
-    ∷ [])
 
 unfoldable pub joinOutcome : NetWithWork → Net → Outcome Moved NetWithWork
 joinOutcome g other =

@@ -14,9 +14,9 @@ use Rattle.game.specs.Table.{tabulate, member}
 use Rattle.game.proofs.Bools.{or-right}
 use Rattle.game.proofs.Tables.{member-in, in-member, tabulate-length}
 use Rattle.sorting.proofs.Counts.{count-le, count-all, count-none}
-use Rattle.groups.proofs.Lists.{stretch, stretch-in, sum-agree, test-cases}
+use Rattle.trimming.proofs.Lists.{stretch, stretch-in, sum-agree, test-cases}
 use Rattle.groups.proofs.Sums.{only, total, total-add, total-here}
-use Rattle.reach.proofs.Counts.{bool-iff, count-ext}
+use Rattle.slots.proofs.Counts.{bool-iff, count-ext}
 use Rattle.cost.specs.Figures.{different}
 use Rattle.cost.proofs.Sums.{count-total}
 use Rattle.meeting.specs.Taken.{allMet}

@@ -3,7 +3,7 @@
 -- Assumes nothing.
 use mathlib.Core.Path.{_≡_, refl, sym, ap, ap₂, subst, _∙_}
 use mathlib.Core.Logic.{_≢_, _⊎_, ⊎-elim, by-cases}
-use mathlib.Core.Bool.{Bool, true, false, not, _||_}
+use mathlib.Core.Bool.{Bool, true, false, _||_}
 use mathlib.Core.List.{List, [], _∷_, _++_, append-nil, List·Memᴰ, List·Memᴰ·head, List·Memᴰ·tail, List·Memᴰ·cases-cons}
 use Prim.Native.Nat.{ℕ, zero, suc, _+_, _-_, _<_}
 use native.Mathlib.Decide.{decLt}
@@ -15,7 +15,7 @@ use Rattle.game.specs.Table.{member, one-if}
 use Rattle.game.specs.Edge.{Edge, lower}
 use Rattle.game.proofs.Bools.{or-left, or-right}
 use Rattle.game.proofs.Tables.{member-in, in-member}
-use Rattle.groups.proofs.Lists.{test-cases}
+use Rattle.trimming.proofs.Lists.{test-cases}
 use Rattle.cost.specs.Figures.{touches}
 use Rattle.meeting.specs.Taken.{allMet, takenAfter}
 use Rattle.meeting.specs.Steps.{unmet, nextPending, nextAt, waiting, waits}

@@ -2,3 +2,4 @@
 pub mod Differ
 pub mod Fallen
 pub mod Followed
+pub mod Linked

@@ -4,7 +4,7 @@ use mathlib.Core.Path.{_≡_}
 use mathlib.Core.Logic.{_⊎_}
 use mathlib.Core.Bool.{cond}
 use mathlib.Core.List.{List}
-use Prim.Native.Nat.{ℕ, _≤_, _<_}
+use Prim.Native.Nat.{ℕ, _≤_, _<_, min}
 use lib.Dec.{eqb}
 use lib.ListN.{length, getD}
 use Rattle.game.specs.Game.{absent}
@@ -14,6 +14,10 @@ use Rattle.moving.specs.declared.Moved.the-variants.{Lowest, Nothing}
 -- the answer by the lowest rank that moved
 unfoldable pub movedAt : ℕ → Moved
 movedAt r = cond (eqb r absent) Nothing (Lowest r)
+
+-- the lowest vertex that moved, of those so far and w, whose parent was old and is y
+unfoldable pub movedWith : (moved w old y : ℕ) → ℕ
+movedWith moved w old y = cond (eqb old y) moved (min moved w)
 
 -- r is the lowest rank at which two tables of parents differ, absent if there is none
 pub record Differ (was is : List ℕ) (r : ℕ) : Type 0 where

@@ -2,9 +2,12 @@
 // none has moved.
 use net::Net;
 ghost use mathlib.Core.Path.{_≡_};
-ghost use Prim.Native.Nat.{min};
+ghost use Prim.Native.Nat.{_<_, min};
+ghost use lib.ListN.{length, getD, set};
+ghost use Rattle.refusal.specs.Verdict.{accepted as acceptedWith};
 ghost use Rattle.moving.specs.Moved.{rankOf};
-ghost use Rattle.moving.specs.Steps.{movedAt};
+ghost use Rattle.moving.specs.Answer.{verdict};
+ghost use Rattle.moving.specs.Steps.{movedAt, movedWith};
 
 // The lowest vertex whose parent is another than before, or nothing: all parents are as before.
 pub enum Moved {
@@ -25,6 +28,20 @@ pub fn lower(a: u32, b: u32) -> u32
     if b < a { b } else { a }
 }
 
+// Makes y the parent of w, which has the parent from before still. Answers the lowest vertex that moved, of those so far and w.
+pub fn link(w: u32, y: u32, parents: &mut [u32], moved: u32) -> u32
+    requires { ⌜ w < length (now parents) ⌝ }
+    ensures { λ r. ⌜ (now (parents .exit) ≡ set (now (parents .entry)) w y) × (r ≡ movedWith moved w (getD (now (parents .entry)) w 0) y) ⌝ }
+{
+    let at = w as usize;
+    let old = parents[at];
+    parents[at] = y;
+    if old == y {
+        return moved;
+    }
+    lower(moved, w)
+}
+
 // The answer by the lowest vertex that moved.
 pub fn moved_at(rank: u32) -> Moved
     ensures { λ r. ⌜ r ≡ movedAt rank ⌝ }
@@ -33,6 +50,14 @@ pub fn moved_at(rank: u32) -> Moved
         return Moved::Nothing;
     }
     Moved::Lowest(rank)
+}
+
+// The answer of an accepted call.
+pub fn accepted(lowest: u32) -> GrowthAnswer
+    ensures { λ r. ⌜ verdict r ≡ acceptedWith (movedAt lowest) ⌝ }
+{
+    let moved = moved_at(lowest);
+    GrowthAnswer::Accepted(moved)
 }
 
 // The answer as one number: absent, where none moved.

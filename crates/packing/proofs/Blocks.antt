@@ -18,7 +18,7 @@ use Rattle.refusal.specs.Limits.{maxTotal}
 use Rattle.packing.specs.Pack.{lightest, put, loadsBelow, blockOf, maxBlocks}
 use Rattle.packing.specs.Steps.{Packable, Packed, Topped, Assigned}
 use Rattle.groups.proofs.Sums.{only, total-more}
-use Rattle.groups.proofs.Carried.{entry}
+use Rattle.trimming.proofs.Carried.{entry}
 use Rattle.packing.proofs.BlockLoads.{pack-none, pack-on, pack-pass, loads-length, loads-sum, block-inside, put-here}
 
 -- who is a top, by the table of tops

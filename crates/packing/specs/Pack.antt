@@ -9,7 +9,7 @@ use Prim.Native.Nat.{ℕ, zero, suc, _+_, max}
 use lib.Dec.{ltb}
 use lib.ListN.{length, getD, set, replicate}
 use Rattle.game.specs.Table.{tabulate}
-use Rattle.groups.specs.Cut.{best}
+use Rattle.trimming.specs.Cut.{best}
 
 -- "k not 1 to 1,000"
 abbrev pub maxBlocks : ℕ

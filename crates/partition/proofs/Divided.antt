@@ -10,15 +10,15 @@ use Rattle.game.specs.Table.{tabulate, sum}
 use Rattle.game.specs.Game.{absent}
 use Rattle.game.proofs.Sound.{Sound, sound-true}
 use Rattle.game.proofs.Tables.{tabulate-length, tabulate-entry}
-use Rattle.groups.specs.Cut.{carried, cut, top, isTop}
+use Rattle.trimming.specs.Cut.{carried, cut, top, isTop}
 use Rattle.packing.specs.Pack.{loadsBelow, blockOf, maxBlocks}
 use Rattle.game.specs.Net.{net}
 use Rattle.partition.specs.Divide.{divisionOf, divided}
 use Rattle.packing.specs.Steps.{Packable, Topped, Assigned}
-use Rattle.groups.specs.Steps.{Divisible, Grouped}
-use Rattle.groups.proofs.Lists.{stretch, stretch-in, sum-agree}
+use Rattle.trimming.specs.Steps.{Divisible, Grouped}
+use Rattle.trimming.proofs.Lists.{stretch, stretch-in, sum-agree}
 use Rattle.groups.proofs.Sums.{only, total}
-use Rattle.groups.proofs.Carried.{entry, carried-size, greedy-carrying}
+use Rattle.trimming.proofs.Carried.{entry, carried-size, greedy-carrying}
 use Rattle.groups.proofs.Groups.{top-of, top-top, tops-weight}
 use Rattle.packing.proofs.Blocks.{topIn}
 

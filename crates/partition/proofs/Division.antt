@@ -16,13 +16,13 @@ use Rattle.refusal.proofs.Ends.{accepted-none}
 use Rattle.refusal.proofs.Never.{end-not, other-not, false-not, verdict-not}
 use Rattle.forest.specs.Promise.{Valid}
 use Rattle.forest.proofs.Promise.{valid-undamaged}
-use Rattle.groups.specs.Cut.{carried, cut, top, groupWeight, group}
+use Rattle.trimming.specs.Cut.{carried, cut, top, groupWeight, group}
 use Rattle.partition.specs.Divide.{DivisionTables, divided, divideRefusal, divideOutcome}
 use Rattle.partition.specs.Division.{weightAt, Division}
-use Rattle.groups.specs.Steps.{Divisible}
-use Rattle.groups.proofs.Lists.{stretch, stretch-in, sum-agree}
+use Rattle.trimming.specs.Steps.{Divisible}
+use Rattle.trimming.proofs.Lists.{stretch, stretch-in, sum-agree}
 use Rattle.groups.proofs.Sums.{only, total-filtered}
-use Rattle.groups.proofs.Carried.{carried-fits}
+use Rattle.trimming.proofs.Carried.{carried-fits}
 use Rattle.partition.proofs.Divided.{tops-entry}
 use Rattle.partition.proofs.Laws.{group-carried, block-loads-sum, largest-bound, block-load}
 use Rattle.partition.proofs.Refused.{divide-known}

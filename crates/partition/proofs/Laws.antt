@@ -18,14 +18,14 @@ use Rattle.game.specs.Table.{tabulate, sum, filtered}
 use Rattle.game.specs.Game.{absent}
 use Rattle.game.proofs.Sound.{Sound, sound-true}
 use Rattle.game.proofs.Tables.{tabulate-entry}
-use Rattle.groups.specs.Cut.{carried, cut, top, isTop, groupWeight}
+use Rattle.trimming.specs.Cut.{carried, cut, top, isTop, groupWeight}
 use Rattle.packing.specs.Pack.{loadsBelow, blockOf, largest}
 use Rattle.game.specs.Net.{net}
 use Rattle.partition.specs.Divide.{divided}
-use Rattle.groups.specs.Steps.{Divisible, Grouped}
-use Rattle.groups.proofs.Lists.{test-cases, stretch, stretch-in, sum-agree}
+use Rattle.trimming.specs.Steps.{Divisible, Grouped}
+use Rattle.trimming.proofs.Lists.{test-cases, stretch, stretch-in, sum-agree}
 use Rattle.groups.proofs.Sums.{only, total-filtered}
-use Rattle.groups.proofs.Carried.{entry, greedy-carrying, carried-fits}
+use Rattle.trimming.proofs.Carried.{entry, greedy-carrying, carried-fits}
 use Rattle.groups.proofs.Groups.{top-up, parent-higher, group-weight, chosen-weight}
 use Rattle.packing.proofs.BlockLoads.{loads-length, loads-sum, load-entry, loads-even, sum-spread}
 use Rattle.packing.proofs.Blocks.{topIn}

@@ -24,7 +24,7 @@ use Rattle.net.proofs.Scan.{undamaged}
 use Rattle.game.proofs.Bools.{or-neither}
 use Rattle.game.proofs.Sound.{true-sound}
 use Rattle.partition.specs.Steps.{Fitting}
-use Rattle.groups.specs.Steps.{Divisible}
+use Rattle.trimming.specs.Steps.{Divisible}
 use Rattle.partition.specs.Divide.{outside, badLimits, tooHeavy, maxLimit, DivisionTables, wrongTables, divideRefusal, divided, divideOutcome}
 use Rattle.packing.specs.Pack.{maxBlocks}
 

@@ -13,7 +13,7 @@ use Rattle.game.specs.Net.{Net}
 use Rattle.refusal.specs.Refusal.{given, first, badCount, wrongLength}
 use Rattle.refusal.specs.Outcome.{Done, done}
 use Rattle.net.specs.Damage.{damaged}
-use Rattle.groups.specs.Cut.{carried, cutBy, top}
+use Rattle.trimming.specs.Cut.{carried, cutBy, top}
 use Rattle.packing.specs.Pack.{maxBlocks, loadsBelow, blockOf}
 
 -- "B not 1 to 16,000,000"

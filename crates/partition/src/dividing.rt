@@ -15,7 +15,7 @@ ghost use Rattle.refusal.specs.Outcome.{ended};
 ghost use Rattle.game.specs.Net.{net};
 ghost use Rattle.partition.specs.Divide.{divisionOf, divided, divideRefusal, divideOutcome};
 ghost use Rattle.partition.specs.Steps.{Fitting};
-ghost use Rattle.groups.specs.Steps.{Divisible};
+ghost use Rattle.trimming.specs.Steps.{Divisible};
 
 // Divides a net that nothing speaks against: carried weight, top and block of each vertex, and the load of each block.
 pub fn cut_and_pack(

@@ -26,8 +26,8 @@ use Rattle.game.proofs.Filled.{higher-linked, linked-higher, clique-in, Low, on
 use Rattle.game.proofs.Climbs.{climbs-conn, conn-climbs}
 use Rattle.game.proofs.Forest.{forest-length, forest-sound, forest-within, within-forest}
 use Rattle.game.proofs.Ancestors.{under-climbs, climbs-under, forest-ancestor}
-use Rattle.reach.proofs.Counts.{bool-iff, entry-some, some-entry-in, count-ext, Rising, rising-above, count-more}
-use Rattle.reach.proofs.Growing.{ancestors-rising}
+use Rattle.slots.proofs.Counts.{bool-iff, entry-some, some-entry-in, count-ext, Rising, rising-above, count-more}
+use Rattle.overlaps.proofs.Growing.{ancestors-rising}
 
 -- ---- walks below x and edges of the filled graph
 

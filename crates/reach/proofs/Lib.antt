@@ -1,17 +1,1 @@
-pub mod Subtree
-pub mod Children
-pub mod Paths
-pub mod Counts
-pub mod Growing
 pub mod Higher
-pub mod SameEdges
-pub mod Climbing
-pub mod Slots
-pub mod Stretches
-pub mod Placing
-pub mod Summing
-pub mod Filing
-pub mod Marking
-pub mod Turns
-pub mod Visiting
-pub mod Nets

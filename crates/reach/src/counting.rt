@@ -1,9 +1,9 @@
 // The reaches, summed up along the forest.
-use crate::entry::add;
-use crate::layout::lay_out;
-use crate::overlap::count_overlaps;
-use crate::slotting::fill_slots;
 use net::Net;
+use overlaps::count_overlaps;
+use slots::add;
+use slots::fill_slots;
+use slots::lay_out;
 ghost use mathlib.Core.Path.{_≡_};
 ghost use mathlib.Core.List.{List};
 ghost use Prim.Native.Nat.{ℕ, _+_, _<_};
@@ -12,10 +12,10 @@ ghost use Rattle.game.specs.Edge.{Edge};
 ghost use Rattle.game.specs.Net.{reach as reachOf};
 ghost use Rattle.game.specs.Table.{tabulate};
 ghost use Rattle.bucket.specs.Filed.{Filed};
-ghost use Rattle.reach.specs.Balance.{Balanced, Summable};
-ghost use Rattle.reach.specs.Given.{Given};
+ghost use Rattle.slots.specs.Balance.{Balanced, Summable};
+ghost use Rattle.slots.specs.Given.{Given};
 
-// Sums a table up as `sum_up` does, and takes off at each vertex what `overlaps` has there. The table comes to be the one that
+// Sums a table up along the forest, and takes off at each vertex what `overlaps` has there. The table comes to be the one that
 // balances.
 fn settle(parents: &[u32], overlaps: &[u32], reach: &mut [u32])
     requires { ⌜ Summable (now parents) (now reach) ⌝ }

@@ -13,7 +13,7 @@ use Rattle.refusal.proofs.First.{first-pass, first-stop, first-last, unless-ref
 use Rattle.refusal.proofs.Fault.{faultless-proper}
 use Rattle.growth.specs.Work.{Work, cleared}
 use Rattle.partition.proofs.Refused.{divide-known}
-use Rattle.reach.specs.Given.{lowerCount, lowerCounts, Given}
+use Rattle.slots.specs.Given.{lowerCount, lowerCounts, Given}
 use Rattle.game.proofs.Weights.{weight-count}
 use Rattle.game.proofs.Tables.{tabulate-ext}
 use Rattle.cost.specs.declared.Totals.{Totals}
@@ -25,7 +25,8 @@ use Rattle.refusal.specs.Outcome.{ended}
 use Rattle.refusal.proofs.Ends.{judged-accepted, judged-refused}
 use Rattle.writing.specs.Written.{Written, figures}
 use Rattle.writing.specs.Steps.{Reportable, Answered}
-use Rattle.report.specs.Report.{Lent, lent, wrongLent, earlyRefusal, reportRefusal, reportOutcome}
+use Rattle.early.specs.Early.{earlyRefusal}
+use Rattle.report.specs.Report.{Lent, lent, wrongLent, reportRefusal, reportOutcome}
 use Rattle.compare.proofs.Sameness.{same-net}
 use Rattle.report.proofs.Own.{same-passes}
 use Rattle.report.proofs.Refused.{ready}

@@ -17,7 +17,8 @@ use Rattle.refusal.specs.Verdict.{accepted, refused, judged}
 use Rattle.cost.specs.declared.Totals.{Totals}
 use Rattle.cost.specs.Figures.{totalsOf}
 use Rattle.compare.specs.Compare.{listRefusal, unlike}
-use Rattle.report.specs.Report.{Lent, wrongLent, earlyRefusal, reportRefusal, reportOutcome}
+use Rattle.early.specs.Early.{earlyRefusal}
+use Rattle.report.specs.Report.{Lent, wrongLent, reportRefusal, reportOutcome}
 use Rattle.compare.proofs.Sameness.{net-same}
 
 -- 23 is not given before anything is compared

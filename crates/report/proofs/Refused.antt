@@ -22,7 +22,8 @@ use Rattle.compare.specs.Compare.{wrongCompared}
 use Rattle.compare.specs.Steps.{Comparable}
 use Rattle.compare.proofs.Refused.{list-passed}
 use Rattle.writing.specs.Written.{written}
-use Rattle.report.specs.Report.{Lent, lent, wrongFigures, wrongLent, earlyRefusal}
+use Rattle.early.specs.Early.{earlyRefusal}
+use Rattle.report.specs.Report.{Lent, lent, wrongFigures, wrongLent}
 
 -- the tables that are lent, one by one
 module _ (p w xs c t b l eb re bc ta cp cw e j lo : List ℕ) where

@@ -20,7 +20,8 @@ use Rattle.cost.specs.Laid.{Together}
 use Rattle.cost.proofs.Laid.{blocks-laid-together, block-charges}
 use Rattle.compare.specs.Compare.{sameNet, unlike}
 use Rattle.writing.specs.Written.{Written, figures}
-use Rattle.report.specs.Report.{Lent, wrongLent, earlyRefusal, reportRefusal, reportOutcome}
+use Rattle.early.specs.Early.{earlyRefusal}
+use Rattle.report.specs.Report.{Lent, wrongLent, reportRefusal, reportOutcome}
 use Rattle.compare.proofs.Sameness.{same-net}
 use Rattle.report.proofs.Refused.{ready}
 

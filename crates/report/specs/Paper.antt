@@ -23,7 +23,8 @@ use Rattle.refusal.specs.Verdict.{accepted, refused, judged}
 use Rattle.refusal.specs.Outcome.{Outcome, ended}
 use Rattle.cost.specs.declared.Totals.{Totals}
 use Rattle.writing.specs.Written.{Written, written, figures}
-use Rattle.report.specs.Report.{Lent, lent, wrongFigures, wrongLent, earlyRefusal, reportRefusal, reportOutcome}
+use Rattle.early.specs.Early.{earlyRefusal}
+use Rattle.report.specs.Report.{Lent, lent, wrongFigures, wrongLent, reportRefusal, reportOutcome}
 
 -- the net of the whole case and its edges, by rank
 whole : Net

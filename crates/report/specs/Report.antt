@@ -15,16 +15,16 @@ use Prim.Native.Nat.{ℕ}
 use lib.ListN.{length}
 use Rattle.game.specs.Edge.{Edge, edges}
 use Rattle.game.specs.Net.{Net, netOf}
-use Rattle.refusal.specs.Refusal.{given, first, unless, badCount, wrongLength, odd}
+use Rattle.refusal.specs.Refusal.{first, unless, wrongLength, odd}
 use Rattle.refusal.specs.Verdict.{judged}
 use Rattle.refusal.specs.Outcome.{Outcome, ended}
-use Rattle.net.specs.Damage.{damaged}
 use Rattle.growth.specs.Work.{Work, cleared}
-use Rattle.partition.specs.Divide.{badLimits, tooHeavy, wrongTables}
+use Rattle.partition.specs.Divide.{wrongTables}
 use Rattle.cost.specs.declared.Totals.{Totals}
 use Rattle.cost.specs.Figures.{totalsOf}
 use Rattle.writing.specs.Written.{Written, figures}
-use Rattle.compare.specs.Compare.{wrongCompared, listRefusal, unlike}
+use Rattle.compare.specs.Compare.{wrongCompared, unlike}
+use Rattle.early.specs.Early.{earlyRefusal}
 
 -- every table that Report is lent to write: those of a net, the comparison tables, and the work tables
 pub record Lent : Type 0 where
@@ -46,19 +46,6 @@ wrongLent of k xs was =
     let n : ℕ = length (of .parents) in
     let m : ℕ = length (edges xs) in
     wrongTables of k (was .written .division) || wrongFigures n m (was .written) || wrongCompared n m (was .compared) (was .work) || odd xs
-
--- the number for which Report is refused before anything is compared, or 0; `wrong` tells whether a length is
-unfoldable pub earlyRefusal : Net → ℕ → ℕ → List ℕ → (wrong : Bool) → ℕ
-earlyRefusal of B k xs wrong =
-    let n : ℕ = length (of .parents) in
-    first
-    (given (badCount n) 1
-    ∷ given wrong 2
-    ∷ given (badLimits B k) 8
-    ∷ given (damaged of) 30
-    ∷ listRefusal n xs
-    ∷ given (tooHeavy B (of .weights)) 22
-    ∷ [])
 
 -- the number for which Report is refused, or 0; 23 comes last
 unfoldable pub reportRefusal : Net → ℕ → ℕ → List ℕ → Lent → ℕ

@@ -1,68 +1,17 @@
 // The call Report. It decides by reading alone, up to 22; then it grows the net of the edges into the comparison tables and compares;
 // only then it writes anything else. The list is filed once, for growing; what is written is read from the same buckets.
 use crate::ReportAnswer;
-use net::Net;
+use early::early_refusal;
+use early::wrong_figures;
 use writing::write_report;
 ghost use mathlib.Core.Path.{_≡_};
-ghost use mathlib.Core.Bool.{false, _||_};
-ghost use lib.ListN.{length};
 ghost use Rattle.game.specs.Net.{net};
-ghost use Rattle.refusal.specs.Refusal.{wrongLength};
 ghost use Rattle.refusal.specs.Outcome.{ended};
 ghost use Rattle.partition.specs.Divide.{divisionOf};
 ghost use Rattle.growth.specs.Work.{workOf};
 ghost use Rattle.writing.specs.Written.{written};
-ghost use Rattle.report.specs.Report.{earlyRefusal, lent, reportOutcome};
+ghost use Rattle.report.specs.Report.{lent, reportOutcome};
 ghost use Rattle.report.specs.Answer.{verdict};
-
-// Whether one of the tables that a division does not know has another length than it needs: n entries for the vertices, m for the edges.
-fn wrong_figures(
-    n: usize,
-    m: usize,
-    edge_blocks: usize,
-    reach: usize,
-    block_count: usize,
-    edges_taken: usize,
-) -> bool
-    ensures { λ r. ⌜ r ≡ (wrongLength «edge_blocks» m || wrongLength reach n || wrongLength «block_count» n || wrongLength «edges_taken» n) ⌝ }
-{
-    (edge_blocks != m) | (reach != n) | (block_count != n) | (edges_taken != n)
-}
-
-// The number for which Report is refused before anything is compared, or 0. Whether a length is wrong was found out before.
-fn early_refusal(
-    parents: &[u32],
-    weights: &[u32],
-    limit: u32,
-    blocks: u32,
-    edges: &[u32],
-    wrong: bool,
-) -> u32
-    requires { ⌜ (wrong ≡ false → length (now weights) ≡ length (now parents)) ⌝ }
-    ensures { λ r. ⌜ r ≡ earlyRefusal (net (now (parents .entry)) (now (weights .entry))) limit blocks (now (edges .entry)) wrong ⌝ }
-{
-    let n = parents.len();
-    if refusal::bad_count(n) {
-        return 1;
-    }
-    if wrong {
-        return 2;
-    }
-    if partition::bad_limits(limit, blocks) {
-        return 8;
-    }
-    if Net::of(weights).is_damaged(parents) {
-        return 30;
-    }
-    let list = compare::list_refusal(n, edges);
-    if list != 0 {
-        return list;
-    }
-    if partition::too_heavy(limit, weights) {
-        return 22;
-    }
-    0
-}
 
 // Divides a net and reports what the division costs, given the net's own edges. Beside Divide's tables it writes the block of each
 // edge, and of each vertex the reach, the block count and how many of its edges that took, and answers the bound, the volume and the even

@@ -24,8 +24,9 @@ use Rattle.files.specs.Refused.{fileRefusal}
 use Rattle.files.specs.Steps.{Loaded, endCapacity}
 use Rattle.files.proofs.Loading.{Sizes, sizes, sizes-pass}
 use Rattle.run.specs.Run.{rankedEdges, runNet, runRefusal}
-use Rattle.run.specs.Text.{reportText, decidedText, runText}
-use Rattle.run.specs.Steps.{Runnable, netText}
+use Rattle.answering.specs.Text.{reportText, decidedText}
+use Rattle.run.specs.Text.{runText}
+use Rattle.answering.specs.Steps.{Runnable, netText}
 
 module _ (f : Files) where
   as-long : length (order f) ≡ vertexCount f

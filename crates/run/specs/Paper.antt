@@ -21,7 +21,8 @@ use Rattle.printing.specs.Lines.{refusedText, spaced, newlined, parentText, lin
 use Rattle.files.specs.Files.{files, vertexCount, edgeCount, order, edgeList, limit, blocks}
 use Rattle.files.specs.Refused.{tooMany, partRecord, notRecords, fileRefusal}
 use Rattle.run.specs.Run.{rankedEdges, runNet, runRefusal}
-use Rattle.run.specs.Text.{reportText, decidedText, runText}
+use Rattle.answering.specs.Text.{reportText, decidedText}
+use Rattle.run.specs.Text.{runText}
 
 -- the order and the edges of the whole case
 marks : List ℕ

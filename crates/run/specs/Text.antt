@@ -1,29 +1,10 @@
 -- What a run prints: its lines, or the refusal.
 -- Assumes nothing.
-use mathlib.Core.List.{List, _++_}
+use mathlib.Core.List.{List}
 use Prim.Native.Nat.{ℕ}
-use lib.ListN.{length}
-use Rattle.game.specs.Edge.{Edge}
-use Rattle.game.specs.Net.{Net, netOf}
-use Rattle.refusal.specs.Refusal.{unless}
-use Rattle.cost.specs.Figures.{totalsOf}
-use Rattle.writing.specs.Written.{Written, figures}
-use Rattle.printing.specs.Lines.{refusedText, rankText, linesBelow, totalsText}
 use Rattle.files.specs.Files.{Files, order, limit, blocks}
+use Rattle.answering.specs.Text.{reportText, decidedText}
 use Rattle.run.specs.Run.{rankedEdges, runRefusal}
-
--- what an accepted run prints, of an order, the edges by rank, and the limits
-unfoldable pub reportText : (order : List ℕ) → List Edge → (B k : ℕ) → List ℕ
-reportText order es B k =
-    let n : ℕ = length order in
-    let net : Net = netOf n es in
-    let w : Written = figures net B k es in
-    linesBelow (rankText order (net .parents) (net .weights) (w .reach) (w .division .top) (w .division .block) (w .blockCount)) n
-    ++ totalsText (totalsOf net es B k)
-
--- what is printed where the number of a refusal decides: the refusal, or at 0 the report
-unfoldable pub decidedText : ℕ → List ℕ → List ℕ
-decidedText code report = unless code (refusedText code) report
 
 -- what a run prints
 unfoldable pub runText : Files → List ℕ

@@ -1,27 +1,26 @@
 -- What the steps of writing a report leave, put together.
 -- Assumes nothing.
-use mathlib.Core.Path.{_≡_, sym, ap, ap₂, subst, _∙_}
+use mathlib.Core.Path.{_≡_, sym, ap, subst, _∙_}
 use mathlib.Core.List.{List}
-use Prim.Native.Nat.{ℕ, _≤_, _<_}
+use Prim.Native.Nat.{ℕ}
 use native.Mathlib.Omega.{arith}
 use lib.ListN.{length, getD, replicate}
 use Rattle.game.specs.Table.{tabulate, sum}
 use Rattle.game.specs.Edge.{Edge}
 use Rattle.game.specs.Net.{Net, net, reach, weights}
 use Rattle.game.proofs.Tables.{tabulate-length}
-use Rattle.refusal.specs.Limits.{maxVertices, maxTotal}
 use Rattle.refusal.specs.Refusal.{firstFault}
 use Rattle.refusal.proofs.Fault.{proper-faultless}
 use Rattle.bucket.specs.Filed.{Filed}
 use Rattle.growth.specs.Work.{Work, workOf, zeros, cleared}
 use Rattle.partition.specs.Divide.{DivisionTables, divisionOf, divided}
-use Rattle.groups.specs.Cut.{top}
+use Rattle.trimming.specs.Cut.{top}
 use Rattle.partition.specs.Steps.{Fitting}
 use Rattle.partition.proofs.Laws.{block-loads-sum}
-use Rattle.sharing.specs.declared.Share.{Share}
 use Rattle.sharing.specs.Share.{evenShare}
 use Rattle.cost.specs.Figures.{edgeBlocks, blockCount, bound, boundOf, volumeOf, shareOf, totals, totalsOf}
-use Rattle.summing.specs.Steps.{boundBy, volumeBy}
+use Rattle.cost.specs.Steps.{ReportTables, summed}
+use Rattle.cost.specs.declared.Totals.{Totals}
 use Rattle.meeting.specs.Taken.{edgesTaken}
 use Rattle.meeting.specs.Steps.{Countable, Writes}
 use Rattle.writing.specs.Written.{written, figures}
@@ -55,11 +54,11 @@ module _ {p w c t b l eb re bc en lo : List ℕ} {es : List Edge} {B : ℕ} (q :
   unfolding of
   block-long = ap length (block-is ∙ divided-block of B k) ∙ tabulate-length (length p) (λ x. packed of B k (top p (cuts of B k) x))
 
-  pub top-long : length t′ ≡ length p
+  top-long : length t′ ≡ length p
   unfolding of
   top-long = ap length (top-is ∙ divided-top of B k) ∙ tabulate-length (length p) (top p (cuts of B k))
 
-  pub reach-long : length re′ ≡ length p
+  reach-long : length re′ ≡ length p
   reach-long = ap length (s .reached) ∙ tabulate-length (length p) (reach p es)
 
   pub block-faultless : firstFault (length b′) es ≡ 0
@@ -84,20 +83,27 @@ module _ {p w c t b l eb re bc en lo : List ℕ} {es : List Edge} {B : ℕ} (q :
   loads-total : sum l′ ≡ sum w
   loads-total = ap (λ (d : DivisionTables). sum (d .blockLoads)) (s .divided-so) ∙ block-loads-sum (q .divisible) (length l) (q .division .some)
 
-  pub shareable : length l′ ≡ length l → (0 < length l′) × (length l′ ≤ maxVertices) × (sum l′ ≤ maxTotal)
-  shareable e = (omega (arith, e, q .division .some), omega (arith, e, q .division .few), omega (arith, loads-total, q .divisible .small))
+  pub summable : {bc″ : List ℕ} → length l′ ≡ length l → length bc″ ≡ length p → ReportTables p t′ re′ bc″ l′
+  summable e f = record {
+    few = q .own .vertices;
+    tops = top-long;
+    reaches = reach-long;
+    counts = f;
+    some = omega (arith, e, q .division .some);
+    few-blocks = omega (arith, e, q .division .few);
+    small = omega (arith, loads-total, q .divisible .small);
+  }
 
   -- all that was written, and the answer
-  pub all-answered : {m : ℕ} {eb″ bc″ ta″ jump : List ℕ} (jump′ : List ℕ) {bo vo : ℕ} {sh : Share} {work : Work} → m ≡ length l → eb″ ≡ edgeBlocks b′ es → Writes es b′ m bc″ ta″
-      → length jump′ ≡ length jump → work ≡ cleared (workOf en jump′ lo) → bo ≡ boundBy p t′ re′ → vo ≡ volumeBy bc″
-      → length l′ ≡ length l → sh ≡ evenShare (sum l′) (length l′)
-      → Answered (net p w) B (length l) es (workOf en jump lo) (totals bo vo sh) (written (divisionOf c′ t′ b′ l′) eb″ re′ bc″ ta″) work
-  unfolding figures totalsOf boundOf volumeOf shareOf of k cleared zeros
-  all-answered {m} {eb″} {bc″} {ta″} jump′ e f g j z u v h a = record {
-    answers = λ i. totals
-        ((u ∙ bound-by p es t′ (s .reached) ∙ ap (bound p es) top-is) i)
-        ((v ∙ volume-by (length p) (length l) (divided of B k .block) es counted) i)
-        ((a ∙ ap₂ evenShare loads-total h) i);
+  pub all-answered : {m : ℕ} {eb″ bc″ ta″ jump : List ℕ} (jump′ : List ℕ) {r : Totals} {work : Work} → m ≡ length l → eb″ ≡ edgeBlocks b′ es → Writes es b′ m bc″ ta″
+      → length jump′ ≡ length jump → work ≡ cleared (workOf en jump′ lo) → length l′ ≡ length l → r ≡ summed p t′ re′ bc″ l′
+      → Answered (net p w) B (length l) es (workOf en jump lo) r (written (divisionOf c′ t′ b′ l′) eb″ re′ bc″ ta″) work
+  unfolding figures totalsOf boundOf volumeOf shareOf summed of k cleared zeros
+  all-answered {m} {eb″} {bc″} {ta″} jump′ e f g j z h a = record {
+    answers = a ∙ (λ i. totals
+        ((bound-by p es t′ (s .reached) ∙ ap (bound p es) top-is) i)
+        (volume-by (length p) (length l) (divided of B k .block) es counted i)
+        (evenShare (loads-total i) (h i)));
     writes = λ i. written (s .divided-so i) ((f ∙ ap (λ (t : List ℕ). edgeBlocks t es) block-is) i) (s .reached i) (counted i) (took i);
     clear = z ∙ ap (λ (n : ℕ). workOf (zeros en) (replicate n 0) (zeros lo)) j;
   }

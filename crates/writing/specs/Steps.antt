@@ -11,8 +11,8 @@ use Rattle.bucket.specs.Filed.{Filed}
 use Rattle.growth.specs.Work.{Work, cleared}
 use Rattle.partition.specs.Divide.{DivisionTables, divided}
 use Rattle.partition.specs.Steps.{Fitting}
-use Rattle.groups.specs.Steps.{Divisible}
-use Rattle.reach.specs.Given.{Given}
+use Rattle.trimming.specs.Steps.{Divisible}
+use Rattle.slots.specs.Given.{Given}
 use Rattle.cost.specs.declared.Totals.{Totals}
 use Rattle.cost.specs.Figures.{totalsOf}
 use Rattle.writing.specs.Written.{Written, figures}

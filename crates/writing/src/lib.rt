@@ -106,12 +106,5 @@ pub fn write_report(
         jump,
     );
     growth::clear(ends, jump, lower, 0);
-    let bound = cost::bound(parents, top, reach);
-    let volume = cost::volume(block_count);
-    let share = sharing::even_share(block_loads);
-    Totals {
-        bound,
-        volume,
-        share,
-    }
+    cost::sum_up(parents, top, reach, block_count, block_loads)
 }

@@ -8,7 +8,8 @@ use Rattle.growth.proofs.NewParents.{links-blank}
 use Rattle.growth.proofs.Regrown.{filed-growable, grown-filed}
 use Rattle.growth.proofs.Rooms.{same-room}
 use Rattle.inserting.proofs.First.{first-links, list-weighs}
-use Rattle.inserting.proofs.Put.{put-none, rest-grown}
+use Rattle.putting.proofs.Puts.{put-none}
+use Rattle.inserting.proofs.Rest.{rest-grown}
 use Rattle.inserting.proofs.growing.grow_counted.Statement.{statement}
 use Rattle.inserting.proofs.growing.grow_counted.Tie as tie
 

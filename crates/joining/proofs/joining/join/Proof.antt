@@ -4,7 +4,7 @@ use Rattle.game.proofs.Sound.{true-sound}
 use Rattle.moving.specs.Answer.{verdict}
 use Rattle.refusal.proofs.Ends.{ends-refused, ends-accepted}
 use Rattle.joining.specs.Join.{joinOutcome}
-use Rattle.joining.proofs.Accepted.{joinable}
+use Rattle.joinable.proofs.Accepted.{joinable}
 use Rattle.joining.proofs.Outcomes.{join-ends, join-moved}
 use Rattle.growth.proofs.Regrown.{filed-growable}
 use borrow.Author.Needs.{needs}

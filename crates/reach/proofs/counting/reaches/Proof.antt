@@ -4,7 +4,7 @@ use borrow.Author.Needs.{needs}
 use Rattle.game.specs.Net.{reach as reachOf}
 use Rattle.bucket.specs.Filed.{inBuckets}
 use lib.ListN.{length}
-use Rattle.reach.proofs.Nets.{net-total, net-summable, net-fileable, net-slotted, own-filed, regrouped, in-row, slots-regrouped, reach-regrouped}
+use Rattle.overlaps.proofs.Nets.{net-total, net-summable, net-fileable, net-slotted, own-filed, regrouped, in-row, slots-regrouped, reach-regrouped}
 use Rattle.reach.proofs.counting.reaches.Statement.{statement}
 use Rattle.reach.proofs.counting.reaches.Tie as tie
 

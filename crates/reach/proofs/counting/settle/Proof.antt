@@ -2,7 +2,7 @@ use Prim.Native.Nat.{_-_, _≤_}
 use lib.ListN.{length}
 use borrow.Author.Needs.{needs}
 use native.Mathlib.Nat.{le-antisymm}
-use Rattle.reach.proofs.Summing.{Summed, summed-first, turn-less, turn-fits, turn-root, turn-child, turn-last}
+use Rattle.slots.proofs.Summing.{Summed, summed-first, turn-less, turn-fits, turn-root, turn-child, turn-last}
 use Rattle.reach.proofs.counting.settle.Statement.{statement}
 use Rattle.reach.proofs.counting.settle.Tie as tie
 

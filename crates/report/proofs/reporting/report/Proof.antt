@@ -6,7 +6,8 @@ use Rattle.growth.proofs.Rooms.{same-room}
 use Rattle.partition.specs.Divide.{divisionOf}
 use Rattle.writing.specs.Written.{written}
 use Rattle.report.specs.Answer.{verdict}
-use Rattle.report.specs.Report.{lent, earlyRefusal}
+use Rattle.early.specs.Early.{earlyRefusal}
+use Rattle.report.specs.Report.{lent}
 use Rattle.report.proofs.Refused.{wrong-lengths, lengths-right, ready}
 use Rattle.report.proofs.Outcome.{ends-early, ends-late, write-ready, ends-accepted}
 use borrow.Author.Needs.{needs}

@@ -1,0 +1,2 @@
+-- The early refusals of a report.
+pub mod Early

@@ -1,0 +1,57 @@
+// What Report is refused for before anything is compared: 1, 2, 8, 30, 4 or 5, 20 and 22, found by reading alone.
+use net::Net;
+ghost use mathlib.Core.Path.{_≡_};
+ghost use mathlib.Core.Bool.{false, _||_};
+ghost use lib.ListN.{length};
+ghost use Rattle.game.specs.Net.{net};
+ghost use Rattle.refusal.specs.Refusal.{wrongLength};
+ghost use Rattle.early.specs.Early.{earlyRefusal};
+
+// Whether one of the tables that a division does not know has another length than it needs: n entries for the vertices, m for the edges.
+pub fn wrong_figures(
+    n: usize,
+    m: usize,
+    edge_blocks: usize,
+    reach: usize,
+    block_count: usize,
+    edges_taken: usize,
+) -> bool
+    ensures { λ r. ⌜ r ≡ (wrongLength «edge_blocks» m || wrongLength reach n || wrongLength «block_count» n || wrongLength «edges_taken» n) ⌝ }
+{
+    (edge_blocks != m) | (reach != n) | (block_count != n) | (edges_taken != n)
+}
+
+// The number for which Report is refused before anything is compared, or 0. Whether a length is wrong was found out before.
+pub fn early_refusal(
+    parents: &[u32],
+    weights: &[u32],
+    limit: u32,
+    blocks: u32,
+    edges: &[u32],
+    wrong: bool,
+) -> u32
+    requires { ⌜ (wrong ≡ false → length (now weights) ≡ length (now parents)) ⌝ }
+    ensures { λ r. ⌜ r ≡ earlyRefusal (net (now (parents .entry)) (now (weights .entry))) limit blocks (now (edges .entry)) wrong ⌝ }
+{
+    let n = parents.len();
+    if refusal::bad_count(n) {
+        return 1;
+    }
+    if wrong {
+        return 2;
+    }
+    if partition::bad_limits(limit, blocks) {
+        return 8;
+    }
+    if Net::of(weights).is_damaged(parents) {
+        return 30;
+    }
+    let list = compare::list_refusal(n, edges);
+    if list != 0 {
+        return list;
+    }
+    if partition::too_heavy(limit, weights) {
+        return 22;
+    }
+    0
+}

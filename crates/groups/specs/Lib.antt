@@ -1,3 +1,0 @@
--- How a forest is cut into groups.
-pub mod Cut
-pub mod Steps

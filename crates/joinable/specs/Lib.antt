@@ -1,0 +1,2 @@
+-- What joining is refused for.
+pub mod Refused

@@ -1,0 +1,2 @@
+-- What putting edges in promises.
+pub mod Putting

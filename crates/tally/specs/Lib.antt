@@ -1,0 +1,2 @@
+-- What counting promises.
+pub mod Steps
