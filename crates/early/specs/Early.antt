@@ -13,7 +13,7 @@ use Rattle.net.specs.Damage.{damaged}
 use Rattle.partition.specs.Divide.{badLimits, tooHeavy}
 use Rattle.compare.specs.Compare.{listRefusal}
 
--- the number of it, or 0; `wrong` tells whether a length is
+-- the number for which Report is refused early, or 0; `wrong` tells whether a length is wrong
 unfoldable pub earlyRefusal : Net → ℕ → ℕ → List ℕ → (wrong : Bool) → ℕ
 earlyRefusal of B k xs wrong =
     let n : ℕ = length (of .parents) in

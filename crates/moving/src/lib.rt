@@ -1,5 +1,5 @@
-// Where a forest moved (document 02, Paper 2): what adding and joining answer. While they work, it is the number of a vertex, absent where
-// none has moved.
+// Where a forest moved (document 02, Paper 2): it is seen where a vertex is linked to its parent, and is what adding and joining answer.
+// While they work, it is the number of a vertex, absent where none has moved.
 use net::Net;
 ghost use mathlib.Core.Path.{_≡_};
 ghost use Prim.Native.Nat.{_<_, min};
