@@ -3,7 +3,8 @@
  *
  *     bench [MOST [FAMILY]]        up to so many vertices; only families whose name begins so */
 #include "index.h"
-#include "peers.h"
+#include "separate.h"
+#include "tables.h"
 #include "timing.h"
 
 #include <malloc.h>
@@ -12,36 +13,6 @@
 #include <string.h>
 
 enum { FEW = 100, STRETCH = 1024 };
-
-static struct tables make_tables(size_t n, size_t m)
-{
-    return (struct tables){room(n, 4), room(n, 4), room(n, 4), room(n, 4), room(n + (m > n ? m : n), 4), room(n, 4), room(n, 4),
-                           room(2 * m, 4), room(n + 1, sizeof(int)), room(m, sizeof(int)), room(8 * n, 1),
-                           room(n, 4), room(n, 4), room(n, 4), room(MAX_BLOCKS, 4),
-                           room(n, 4), room(m, 4), room(n, 4), room(n, 4)};
-}
-
-static void free_tables(struct tables *t)
-{
-    void *all[] = {t->parents, t->weights, t->ends,  t->jump,    t->lower, t->parents2, t->weights2,   t->ranks,
-                   t->start,   t->row,     t->bytes, t->carried, t->top,   t->block,    t->block_loads, t->reach,
-                   t->edge_blocks, t->block_count, t->edges_taken};
-    for (size_t i = 0; i < sizeof all / sizeof *all; i++)
-        free(all[i]);
-}
-
-static void start(uint32_t *parents, uint32_t *weights, size_t n)
-{
-    must(niqastul_start(parents, n, weights, n) == 0, "start refused");
-}
-
-/* Answers where the forest moved, as join does. */
-static uint32_t add(struct tables *t, uint32_t *parents, uint32_t *weights, size_t n, const uint32_t *edges, size_t m)
-{
-    uint32_t moved;
-    must(niqastul_add(parents, n, weights, n, edges, 2 * m, t->ends, n, t->jump, n, t->lower, n + m, &moved) == 0, "add refused");
-    return moved;
-}
 
 static uint32_t join(struct tables *t, size_t n)
 {
@@ -255,6 +226,7 @@ int main(int count, char **words)
                 struct net net = make_net(&families[f], sizes[s]);
                 measure(families[f].name, &net);
                 measure_index(families[f].name, &net);
+                measure_separate(families[f].name, &net);
                 free_net(&net);
             }
     return 0;

@@ -4,7 +4,7 @@
 
 #include "nets.h"
 
-enum { MAX_VERTICES = 1000000, MAX_BLOCKS = 1000 };
+enum { MAX_VERTICES = 1000000, MAX_EDGES = 16000000, MAX_TOTAL = 16000000, MAX_BLOCKS = 1000 };
 
 /* Tables for all that is measured on one net, made once and written before they are measured. */
 struct tables {
@@ -23,6 +23,11 @@ struct tables {
 struct figures {
     uint64_t bound, volume;
     uint32_t quotient, remainder;
+};
+
+/* The vertices above both of two ranks, in a table of n entries, how many they are, and the lowest of them. */
+struct separator {
+    uint32_t *vertices, count, lowest;
 };
 
 /* SuiteSparse: compressed columns of the upper triangle from the list, then cs_etree. The columns are counted and filled here, into
@@ -48,5 +53,10 @@ void plain_divide(size_t n, uint32_t limit, uint32_t blocks, struct tables *t);
 /* Grows the net of the edges, divides it, and counts reaches, blocks and the edges taken for these: what a report does, less refusals and
  * comparison. */
 void plain_report(const struct net *net, uint32_t limit, uint32_t blocks, struct tables *t, struct figures *its);
+/* Walks up from two ranks in a table of parents; answers 31 if they are one or one is above the other, or 0. */
+uint32_t plain_separate(const uint32_t *parents, uint32_t one, uint32_t other, struct separator *its);
+/* The same of the net in parents and weights, with the library's tests: grows the net of the edges in parents2 and weights2, compares, and
+ * leaves work tables of zeros. Answers the refusal, or 0. */
+uint32_t checked_separate(const struct net *net, uint32_t one, uint32_t other, struct tables *t, struct separator *its);
 
 #endif

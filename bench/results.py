@@ -17,6 +17,7 @@ MEASURED = {
     "divide 1000": ("Dividing into 1,000 blocks", "divide-1000", "plain C"),
     "report 16": ("Reporting on a division into 16 blocks", "report", "plain C"),
     "report 2": ("Reporting on a division into 2 blocks", "report-2", "plain C"),
+    "separate": ("Separating two vertices", "separate", "checked C"),
     "index": ("Building an index of neighbours", "index", "checked C"),
     "query": ("Querying an index for one rank", "query", "scan"),
     "threads": ("Growing a net in two threads", "threads", "one thread"),
@@ -34,7 +35,13 @@ limit of a quarter of a block's even share of the total, or the largest weight. 
 it, counts reaches, divides, and counts the blocks of each vertex along its edges, in the order of the list, until all are met. All
 block counts, edges taken and the even share have to be those of plain C, which lays the blocks of each vertex's edges side by side by a counting
 sort of both ends. SuiteSparse's time there is that of `cs_etree` with its columns, `cs_post` and `cs_counts`, whose column counts
-have to be the reaches. An index is built of the list in two halves; `plain C` is there the
+have to be the reaches. What lies between two vertices is asked of vertex 0 and the lowest that is not above it or, where all are,
+of vertex 0 and the last, which is refused with 31 and costs as much. On most nets nearly all of that time goes to growing the net of
+the list, to be compared with the net that is lent: `growing` is the library's own start and add of the same list. The walk up from
+both vertices goes over each rank once at most. It tells most on two paths to one top, whose list is the fastest to grow and where one
+vertex is above both; the longest list of vertices is written at the busy hub. `checked C` grows, weighs, compares, clears its work
+tables and walks; SuiteSparse's time there is that of `cs_etree` with its columns, the comparison of parents and the walk. An index
+is built of the list in two halves; `plain C` is there the
 counting sort without refusals, `cs_compress` SuiteSparse's compressed columns of each edge as two triplets, which have to be
 the same tables. A query tests all starts; `one pass` reads them once, and `scan` is what a query takes without an index: all
 edges of the list, each tested for the rank. Growing in two threads is
@@ -72,7 +79,7 @@ def table(rows, against):
 # Plots: one panel for each family, time against size, both logarithmic.
 
 COLOURS = {"niqastul": "#0072B2", "SuiteSparse": "#D55E00", "plain C": "#777777", "checked C": "#CC79A7", "cs_compress": "#E69F00", "one pass": "#009E73",
-           "compare all": "#E69F00", "two threads": "#0072B2", "one thread": "#D55E00", "scan": "#D55E00"}
+           "compare all": "#E69F00", "two threads": "#0072B2", "one thread": "#D55E00", "scan": "#D55E00", "growing": "#009E73"}
 WIDTH, HEIGHT, LEFT, BOTTOM, TOP, COLUMNS = 250, 170, 40, 34, 26, 4
 
 

@@ -15,7 +15,7 @@
  * at the call. Work tables are room that the call needs and that the caller lends; what they hold before does not matter.
  *
  * ANSWERS. 0 (NIQASTUL_ACCEPTED), or the number of the refusal: of those that are listed at the call, the first that
- * applies. A refused call leaves every table bit for bit as it was; the two exceptions are named at the calls. What is not
+ * applies. A refused call leaves every table bit for bit as it was; the exceptions are named at the calls. What is not
  * refused is accepted, and then every table that is not const is as the call says. Nothing is allocated or kept between
  * calls, and there is no other state: calls on different tables may run in different threads.
  *
@@ -40,9 +40,9 @@
 extern "C" {
 #endif
 
-#define NIQASTUL_ABSENT UINT32_C(0xFFFFFFFF) /* the parent of a vertex that has none; where the forest moved, if it did not */
+#define NIQASTUL_ABSENT UINT32_C(0xFFFFFFFF) /* for no rank: no parent, none that moved, none in a separator */
 #define NIQASTUL_MAX_VERTICES 1000000
-#define NIQASTUL_MAX_EDGES 16000000 /* of a list that is added, reported on or indexed */
+#define NIQASTUL_MAX_EDGES 16000000 /* of a list that is added, given as a net's own or indexed */
 #define NIQASTUL_MAX_TOTAL 16000000 /* of the weights of a net */
 #define NIQASTUL_MAX_LIMIT 16000000 /* of the weight that a group may carry */
 #define NIQASTUL_MAX_BLOCKS 1000
@@ -58,12 +58,13 @@ enum niqastul_answer {
     NIQASTUL_UNLIKE_COUNTS = 21,  /* two nets with different numbers of vertices */
     NIQASTUL_DAMAGED = 30,        /* a net with a parent that is neither absent nor above its vertex, or with too large a total; starts of
                                      an index that do not go from 0 up to the number of its neighbours without falling */
-    NIQASTUL_BAD_VERTEX = 4,      /* an edge names n or more, or the rank asked for is n or more */
+    NIQASTUL_BAD_VERTEX = 4,      /* an edge names n or more, or a rank asked for is n or more */
     NIQASTUL_LOOP = 5,            /* both ends of an edge are one vertex; 4 or 5 is that of the first faulty edge */
     NIQASTUL_BAD_PARENT = 7,      /* a record's parent is neither absent nor above its vertex */
     NIQASTUL_FULL = 20,           /* a total above NIQASTUL_MAX_TOTAL, or a list of more than NIQASTUL_MAX_EDGES edges */
     NIQASTUL_TOO_HEAVY = 22,      /* a weight above the limit, so that no cutting can hold it */
-    NIQASTUL_OTHER_EDGES = 23     /* edges that have other parents or weights than the net */
+    NIQASTUL_OTHER_EDGES = 23,    /* edges that have other parents or weights than the net */
+    NIQASTUL_RELATED = 31         /* the two ranks are equal, or one stands above the other */
 };
 
 /* RELABEL an edge list from vertex numbers to ranks, by an order: the vertex order[r] has rank r.
@@ -210,6 +211,35 @@ uint32_t niqastul_report(const uint32_t *parents, size_t parents_length,
                          uint64_t *volume,
                          uint32_t *quotient,
                          uint32_t *remainder);
+
+/* SEPARATE two vertices of which neither stands above the other: lists the vertices that stand above both, given the net's own edges in
+ * any order. A vertex stands above another if it is reached from it by one or more parents. Every chain of edges from one to the other
+ * passes a vertex of the separator; with a count of 0, which is that of vertices in separate trees, there is no chain.
+ *   reads   parents [n], weights [n]
+ *           one, other         ranks
+ *           edges   [m]        in ranks
+ *   writes  separator [n]      its first *count entries: the vertices above both, by rising rank; the rest is as it was
+ *           compared_parents [n], compared_weights [n]       end holding the net of the edges
+ *           ends [n], jump [n], lower [niqastul_add_lower(n, m)]      work; end as zeros
+ *           *count             how many vertices stand above both
+ *           *lowest            the lowest of them, or NIQASTUL_ABSENT if there are none
+ *   refused 1, 2, 30 (of the net), 4 (one or other is n or more, before any edge is looked at), 4 or 5 at the first faulty edge,
+ *           20 (more than NIQASTUL_MAX_EDGES edges), 23, 31
+ * The exception: refused with 23 or 31, it leaves the net of the edges in compared_parents and compared_weights, and zeros in the work
+ * tables. */
+uint32_t niqastul_separate(const uint32_t *parents, size_t parents_length,
+                           const uint32_t *weights, size_t weights_length,
+                           uint32_t one,
+                           uint32_t other,
+                           const uint32_t *edges, size_t edges_length,
+                           uint32_t *separator, size_t separator_length,
+                           uint32_t *compared_parents, size_t compared_parents_length,
+                           uint32_t *compared_weights, size_t compared_weights_length,
+                           uint32_t *ends, size_t ends_length,
+                           uint32_t *jump, size_t jump_length,
+                           uint32_t *lower, size_t lower_length,
+                           uint32_t *count,
+                           uint32_t *lowest);
 
 /* INDEX an edge list, given in two parts, an old list and an added one: the index is that of the old edges followed by the added ones,
  * as one list would give it. Each edge stands in the runs of both its ends. No index of the old edges is needed, and what the two

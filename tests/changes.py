@@ -38,6 +38,13 @@ def set_number(name, value):
     return change
 
 
+def rank_faults(rank, n_of):
+    """Of a rank that is asked for."""
+    for beyond in (0, 1, 1000):
+        yield 4, f"{rank} n + {beyond}", lambda g, b=beyond: set_number(rank, n_of(g) + b)(g)
+    yield 4, f"{rank} far out", set_number(rank, ABSENT)
+
+
 def edge_faults(edges, n_of):
     """Of a list, given how n is told by the input."""
     for place in (0, 2, -2):

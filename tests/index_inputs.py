@@ -1,7 +1,7 @@
 """Inputs for the calls of an index: accepted ones, and faults to put into them."""
 
 import nets
-from changes import edge_faults, put, resize, resize_all, set_number
+from changes import edge_faults, put, rank_faults, resize, resize_all
 from oracle.forest import ABSENT
 from oracle.neighbours import index_of
 
@@ -52,9 +52,7 @@ def query_faults():
     yield 30, "last start is one less", put("starts", -1, lambda g: g["starts"][-1] - 1)
     for by in (-1, 1, 7, -1000):
         yield 30, f"neighbours {by:+} entries", resize("neighbours", by)
-    for beyond in (0, 1, 1000):
-        yield 4, f"rank n + {beyond}", lambda g, b=beyond: set_number("rank", n_of(g) + b)(g)
-    yield 4, "rank far out", set_number("rank", ABSENT)
+    yield from rank_faults("rank", n_of)
 
 
 FAULTS = {"index": index_faults, "query": query_faults}

@@ -1,10 +1,12 @@
 """Inputs for each call: accepted ones, and faults to put into them, each with the number that it must get."""
 
+import itertools
+
 import index_inputs
 import nets
-from changes import edge_faults, resize_all, put, resize, set_number
+from changes import edge_faults, put, rank_faults, resize, resize_all, set_number
 from library import PRESENT
-from oracle import calls
+from oracle import between, calls
 from oracle.forest import ABSENT, loads_of, parents_of, ties_of
 
 
@@ -64,12 +66,33 @@ def report(rng, n):
     return given | {name: nets.garbage(rng, n) for name in ("reach", "block_count", "edges_taken", "compared_parents", "compared_weights")}
 
 
-MAKERS = {maker.__name__: maker for maker in (relabel, start, add, join, save, read, divide, report, index_inputs.index, index_inputs.query)}
+def separate(rng, n):
+    """Two ranks of which neither is above the other, of a net that hangs together; fewer than four vertices may have no such two."""
+    unrelated = []
+    while not unrelated:
+        ties = nets.ties(rng, n, rng.choice((nets.path, nets.star, nets.tree)))
+        parents = parents_of(n, ties)
+        unrelated = [pair for pair in itertools.permutations(range(n), 2) if not between.related(parents, *pair)] or [(0, 0)] * (n < 4)
+    return asked_between(rng, n, ties, *rng.choice(unrelated))
+
+
+def asked_between(rng, n, ties, one, other):
+    """The net of ties and two of its ranks."""
+    given = {"parents": parents_of(n, ties), "weights": loads_of(n, ties), "one": one, "other": other, "edges": nets.flat(ties)}
+    given |= {"count": nets.garbage(rng, 1), "lowest": nets.garbage(rng, 1)}
+    return given | {table: nets.garbage(rng, n) for table in ("separator", "compared_parents", "compared_weights")}
+
+
+MAKERS = {maker.__name__: maker for maker in (relabel, start, add, join, save, read, divide, report, separate, index_inputs.index,
+                                              index_inputs.query)}
 
 
 def accepted(rng, name, n):
     """An input that the call accepts, with its work tables."""
-    given = MAKERS[name](rng, n)
+    return with_work(rng, name, MAKERS[name](rng, n))
+
+
+def with_work(rng, name, given):
     return given | {table: nets.garbage(rng, len(end)) for table, end in PRESENT[name].work_end(given).items()}
 
 
@@ -133,9 +156,14 @@ def faults(name):
         for k in (0, calls.MAX_BLOCKS + 1):
             yield 8, f"{k} blocks", lambda g, k=k: (set_number("blocks", k)(g), resize("block_loads", k - len(g["block_loads"]))(g))
         yield 22, "a weight above the limit", put("weights", 1, lambda g: g["limit"] + 1)
-    if name == "report":
+    if name in ("report", "separate"):
         yield 23, "another weight", put("weights", -1, 1)
         yield 23, "other edges", lambda g: g.update(edges=nets.flat((0, n_of(g) - 1) for _ in ties_of(g["edges"])))
+    if name == "separate":
+        yield from rank_faults("one", n_of)
+        yield from rank_faults("other", n_of)
+        yield 4, "both ranks are n", lambda g: g.update(one=n_of(g), other=n_of(g))
+        yield from relations()
     if name == "join":
         yield 1, "no vertex in the other net", lambda g: resize("other_parents", -len(g["other_parents"]))(g)
         for by in (-1, 1):
@@ -144,13 +172,22 @@ def faults(name):
         yield from damages(30, "other_parents", "other_weights")
         yield 20, "both nets too full together", lambda g: (full("weights", 5)(g), put("other_weights", 0, lambda h: 6 + h["other_weights"][0])(g))
         yield 20, "both nets full", lambda g: (full("weights")(g), full("other_weights")(g))
-    if name in ("add", "join", "save", "divide", "report"):
+    if name in ("add", "join", "save", "divide", "report", "separate"):
         yield from damages(30, "parents", "weights")
-    if name in ("relabel", "add", "report"):
+    if name in ("relabel", "add", "report", "separate"):
         yield from edge_faults("edges", lambda g: len(g[of_n]))
     if name == "add":
         yield 20, "one edge too many", lambda g: full("weights", len(g["edges"]) // 2 - 1)(g)
         yield 20, "the net is full", full("weights")
+
+
+def relations():
+    """Ranks that are one, or of which one is above the other: in a net that hangs together the last is above all."""
+    for rank in (0, -1):
+        yield 31, f"{rank} and itself", lambda g, r=rank: g.update(one=r % n_of(g), other=r % n_of(g))
+    for one, other in (("one", "other"), ("other", "one")):
+        yield 31, f"{one} has {other} as parent", lambda g, o=one, p=other: g.update({o: 0, p: g["parents"][0]})
+        yield 31, f"{one} is far under {other}", lambda g, o=one, p=other: g.update({o: 0, p: n_of(g) - 1})
 
 
 def file_faults():

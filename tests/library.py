@@ -8,15 +8,16 @@ import pathlib
 import re
 from array import array
 
-from oracle import calls, neighbours
+from oracle import between, calls, neighbours
 
 ROOT = pathlib.Path(__file__).resolve().parent.parent
 LIBRARY = ctypes.CDLL(str(ROOT / "target" / "lib" / "libniqastul.so"))
 
 GUARD = {"I": [0xA5A5A5A5] * 4, "B": [0xA5] * 4, "Q": [0x5A5A5A5A5A5A5A5A] * 2}
 
-# tables whose entries are not of 32 bits
-CODES = {"bytes": "B", "bound": "Q", "volume": "Q", "first": "Q", "count": "Q"}
+# tables whose entries are not of 32 bits, by call
+CODES = {("save", "bytes"): "B", ("read", "bytes"): "B", ("report", "bound"): "Q", ("report", "volume"): "Q", ("query", "first"): "Q",
+         ("query", "count"): "Q"}
 
 # the tables that tell n, where these are not the parents, and by how much they are longer than n
 COUNTED = {"relabel": ("order", 0), "index": ("starts", 1), "query": ("starts", 1)}
@@ -35,14 +36,17 @@ class Call:
     def named(self, *kinds):
         return [name for name, its in self.kinds.items() if its in kinds]
 
+    def code(self, table):
+        return CODES.get((self.name, table), "I")
+
     def expected(self, given):
-        """The number, and every table that is lent to be written, by name. A work table of the wrong length is 2; 23 is found by
-        growing a net, so that the work tables end as if accepted."""
+        """The number, and every table that is lent to be written, by name. A work table of the wrong length is 2; 23, and 31 behind it,
+        are found by growing a net, so that the work tables end as if accepted."""
         number, after = self.judge(given)
         ends = self.work_end(given)
         if number != 1 and any(len(given[name]) != len(ends[name]) for name in ends):
             return 2, {}
-        return number, after | ends if number in (0, 23) else after
+        return number, after | ends if number in (0, 23, 31) else after
 
     def run(self, checks, given, *context):
         """Calls the library with copies of the tables and compares; answers the number and the tables afterwards."""
@@ -52,7 +56,7 @@ class Call:
             if kind == "#":
                 words.append(ctypes.c_uint32(given[name]))
                 continue
-            lent[name] = guarded(CODES.get(name, "I"), given[name])
+            lent[name] = guarded(self.code(name), given[name])
             start = lent[name].buffer_info()[0] + lent[name].itemsize * len(GUARD[lent[name].typecode])
             words.append(ctypes.c_void_p(start))
             if kind != "@":
@@ -78,6 +82,10 @@ def work_of(given, lower):
     return {"ends": [0] * n, "jump": [0] * n, "lower": [0] * lower}
 
 
+def work_of_edges(given):
+    return work_of(given, len(given["parents"]) + len(given["edges"]) // 2)
+
+
 def inverse_of(given):
     order = given["order"]
     rank = {vertex: place for place, vertex in enumerate(order)}
@@ -101,8 +109,7 @@ def call(name, parameters, oracle, work=lambda given: {}):
 CALLS = [
     call("relabel", "order edges out! inverse*", calls.translate, inverse_of),
     call("start", "parents! weights!", calls.start),
-    call("add", "parents! weights! edges ends* jump* lower* moved@", calls.add,
-         lambda g: work_of(g, len(g["parents"]) + len(g["edges"]) // 2)),
+    call("add", "parents! weights! edges ends* jump* lower* moved@", calls.add, work_of_edges),
     call("join", "parents! weights! other_parents other_weights ends* jump* lower* moved@", calls.join,
          lambda g: work_of(g, len(g["parents"]) + len(g["other_parents"]))),
     call("save", "parents weights bytes!", calls.save),
@@ -110,7 +117,9 @@ CALLS = [
     call("divide", "parents weights limit# blocks# carried! top! block! block_loads!", calls.divide),
     call("report", "parents weights limit# blocks# edges carried! top! block! block_loads! edge_blocks! reach! block_count! "
          "edges_taken! compared_parents! compared_weights! ends* jump* lower* bound@ volume@ quotient@ remainder@", calls.report,
-         lambda g: work_of(g, len(g["parents"]) + len(g["edges"]) // 2)),
+         work_of_edges),
+    call("separate", "parents weights one# other# edges separator! compared_parents! compared_weights! ends* jump* lower* count@ lowest@",
+         between.separate, work_of_edges),
     call("index", "old_edges added starts! neighbours!", neighbours.index),
     call("query", "starts neighbours rank# first@ count@", neighbours.query),
 ]

@@ -17,11 +17,13 @@ import test_blocks
 import test_limits
 import test_taken
 import test_share
+import test_separate
 import test_bindings
 import test_commands
 import test_adding
 import test_neighbours
 import test_busy
+import test_between
 import test_split
 import test_pictures
 import test_parts

@@ -23,13 +23,13 @@ def printed(*command, **options):
 def python_binding(t):
     shown = printed(sys.executable, "test_niqastul.py", cwd=ROOT / "bindings" / "python").stderr
     ran = int(re.search(r"Ran (\d+) tests", shown)[1])
-    t.true(ran >= 17 and shown.rstrip().endswith("OK"), shown)
+    t.true(ran >= 19 and shown.rstrip().endswith("OK"), shown)
 
 
 @test(at_least=1)
 def rust_binding(t):
     shown = printed("cargo", "test", "--offline", "--quiet", cwd=ROOT / "bindings" / "rust").stdout
-    t.true(sum(int(passed) for passed in re.findall(r"(\d+) passed", shown)) >= 26, shown)
+    t.true(sum(int(passed) for passed in re.findall(r"(\d+) passed", shown)) >= 30, shown)
 
 
 @test(at_least=60)

@@ -8,7 +8,7 @@ from commands import THREE, a_folder
 from harness import test
 from oracle import blocks, calls
 from oracle.forest import loads_of, parents_of, ties_of
-from test_commands import FAULTS, WANTS, WHOLE, broken_three, untouched
+from test_commands import FAULTS, WANTS, WHOLE, broken_three, not_there, untouched
 from test_oracle import file_of
 
 COMMAND = ("busy", *THREE)
@@ -63,10 +63,7 @@ def refusals(t):
         for number, fault in FAULTS + WANTS:
             folder.write(**(WHOLE | fault))
             untouched(t, folder, COMMAND, number, str(fault)[:200])
-        for gone in THREE:
-            folder.write(**(WHOLE | {gone.replace(".", "_"): None}))
-            status, out, err = folder.run(*COMMAND)
-            t.true((status, out) == (2, "") and f"{gone}: No such file" in err and err.count("\n") == 1, err)
+        not_there(t, folder, COMMAND, THREE)
 
 
 @test(at_least=600)

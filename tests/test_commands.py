@@ -73,6 +73,44 @@ def untouched(t, folder, words, number, *context):
     t.same(folder.state(), before, *words, *context)
 
 
+def not_there(t, folder, words, names):
+    """2, and a line that names the file that is missing."""
+    for gone in names:
+        folder.write(**(WHOLE | {gone.replace(".", "_"): None}))
+        status, out, err = folder.run(*words)
+        t.true((status, out) == (2, "") and f"{gone}: No such file" in err and err.count("\n") == 1, err)
+
+
+def marks_refused(t, command, good, *among):
+    """Of a command that is given an order, ties and marks: the refusals of the files; a mark that is not one of the n is 4, before any tie
+    is looked at and behind what comes before 4. `good` are marks that are none of these; a bad one is put `among` some."""
+    n, words = len(WHOLE["marks_ord"]) // 4, (command, *THREE[:2])
+    with a_folder() as folder:
+        for number, fault in FAULTS:
+            folder.write(**(WHOLE | fault))
+            untouched(t, folder, (*words, *good.split()), number, str(fault)[:200])
+            for its in among:
+                untouched(t, folder, (*words, *its.format(n).split()), 4 if number == 5 else number, str(fault)[:200])
+        for bad in (n, n + 1, 2**32 - 1, 2**32, 2**32 + 1, 2**64, 10**40):
+            for ties, its in itertools.product((WHOLE["ties_rec"], file_of(0, 0)), among):
+                folder.write(**(WHOLE | {"ties_rec": ties}))
+                untouched(t, folder, (*words, *its.format(bad).split()), 4, bad)
+        untouched(t, folder, (*words, *good.split()), 5)
+        not_there(t, folder, (*words, *good.split()), words[1:])
+
+
+def too_long(t, folder, good, bad):
+    """On files of as many ties as there may be, with marks that are good and bad: one tie more is 20, unless one is faulty, or a mark."""
+    def refused(words, text, *tie):
+        with open(folder.path / "ties.rec", "ab") as file:
+            file.write(file_of(*tie))
+        t.same(folder.run(*words)[::2], (1, text))
+
+    refused(good, "refused 20: more than 16,000,000 edges in all\n", 0, 1)
+    refused(bad, "refused 4: an edge or a query names a vertex out of range\n")
+    refused(good, "refused 5: both ends of an edge are one vertex\n", 1, 1)
+
+
 @test(at_least=200)
 def refusals(t):
     """Each refusal of files, with no output there and with an old one."""
@@ -111,6 +149,21 @@ def broken_three(seed, values=256):
     files = [file_of(*numbers) for numbers in lists]
     files[1] += file_of(0, 0) * (seed % 10 == 0)
     return broken(rng, files, values)
+
+
+def broken_two(folder, rng, most):
+    """Writes the order and the ties of a net of fewer marks than so many, one of them broken; answers the number of marks and both."""
+    n = rng.randrange(1, most)
+    ties = nets.ties(rng, n, rng.choice(nets.SHAPES))
+    given = broken(rng, [file_of(*rng.sample(range(n), n)), file_of(*nets.flat(ties))], values=5)
+    folder.write(marks_ord=given[0], ties_rec=given[1])
+    return n, given
+
+
+def refusal_of_marks(marks, ties, *asked):
+    """That of a run over the two files, with 4 of a mark asked for in its place: before 4 or 5 of a tie."""
+    number = blocks.refusal(marks, ties, LARGEST)
+    return 4 if number in (0, 4, 5) and max(asked) >= len(marks) // 4 else number
 
 
 @test(at_least=1_000)
@@ -223,7 +276,7 @@ def whole_or_not(t):
             os.rename(folder.path / "out", folder.path / words[0])
 
 
-@test(at_least=28)
+@test(at_least=34)
 def command_line(t):
     """As a program: help and its exit status, usage, what is printed where."""
     def ran(*words, **environment):
@@ -231,18 +284,21 @@ def command_line(t):
         return its.returncode, its.stdout, its.stderr
 
     status, out, _ = ran("-h", NIQASTUL_LIBRARY="/nowhere")
-    words = ("grow", "add", "join", "split", "together", "picture", "neighbours", "busy", "exit status", "ties.rec")
+    words = ("grow", "add", "join", "split", "together", "picture", "neighbours", "busy", "between", "exit status", "ties.rec")
     t.true(status == 0 and all(word in out for word in words), out)
     status, out, _ = ran("picture", "-h")
     t.true(status == 0 and "[places.txt]" in out and "ringed" in out, out)
     status, out, _ = ran("split", "-h")
     t.true(status == 0 and "bound, volume, share" in out, out)
+    status, out, _ = ran("between", "-h")
+    t.true(status == 0 and "marks.ord ties.rec MARK MARK" in out and "`none`" in out and "31" in out, out)
     for command, link in (("add", "net.link"), ("join", "a.link")):
         status, out, _ = ran(command, "-h")
         t.true(status == 0 and f"than in {link}:" in out and "`none moved`" in out, out)
     for words in ((), ("shrink",), ("grow", "a", "b"), ("add", "a", "b", "c"), ("grow", "a", "b", "c", "d"), ("grow", "--fast", "a", "b", "c"),
                   ("neighbours", "a", "b"), ("neighbours", "a", "b", "0", "c"), ("neighbours", "a", "b", "-1"), ("neighbours", "a", "b", "1.0"),
-                  ("busy", "a", "b"), ("busy", "a", "b", "c", "d")):
+                  ("busy", "a", "b"), ("busy", "a", "b", "c", "d"), ("between", "a", "b", "0"), ("between", "a", "b", "0", "1", "2"),
+                  ("between", "a", "b", "0", "-1")):
         status, out, err = ran(*words)
         t.true(status == 2 and out == "" and "usage: python3 -m niqastul" in err, *words)
     with a_folder() as folder:
@@ -254,6 +310,8 @@ def command_line(t):
         t.same(ran("picture", *names[:3], names[5]), (0, "", ""))
         t.same(ran("neighbours", *names[:2], "3", "2"), (0, "3 1 4 1\n2 0\n", ""))
         t.same(ran("busy", *names[:3]), (0, "4 2 2\n", ""))
+        t.same(ran("between", *names[:2], "3", "0"), (0, "4 5\n", ""))
+        t.same(ran("between", *names[:2], "3", "5"), (1, "", "refused 31: the two ranks are equal, or one stands above the other\n"))
         t.same(ran("add", names[0], names[4], names[1], names[4]), (0, "none moved\n", ""))
         t.same(ran("join", names[4], names[4], names[4]), (0, "none moved\n", ""))
         t.same(ran("grow", names[1], names[1], names[4]), (1, "", "refused 3: an entry of the order is out of range or repeats\n"))
@@ -270,5 +328,5 @@ def commands_of_readme(t):
         for line in SHOWN:
             status, out, err = folder.run(*line.split())
             t.same((status, err), (0, ""), line)
-            if line.split()[0] in ("add", "join", "neighbours", "busy"):
+            if line.split()[0] in ("add", "join", "neighbours", "busy", "between"):
                 t.true(out and "".join(f"    {its}\n" for its in out.splitlines()) in README, out)

@@ -1,5 +1,6 @@
 """Demand 3, executed: random lists of calls over several nets and files, accepted and refused, against the book of ties."""
 
+import collections
 import random
 
 import inputs
@@ -63,7 +64,8 @@ class History:
         return flat
 
     def step(self):
-        name = self.rng.choice([name for name in ("start", "add", "add", "join", "join", "save", "read", "relabel", "divide", "report", "index") if name in PRESENT])
+        names = ("start", "add", "add", "join", "join", "save", "read", "relabel", "divide", "report", "index", "separate")
+        name = self.rng.choice([name for name in names if name in PRESENT])
         net, other = self.rng.sample(NETS, 2)
         file = self.rng.choice(FILES)
         if name == "start":
@@ -88,17 +90,34 @@ class History:
             self.divide(name, net, self.rng.randrange(9), self.rng.randrange(4))
         elif name == "index":
             self.index(net)
+        elif name == "separate":
+            self.separate(net, *self.two_ranks(net))
         else:
             PRESENT[name].run(self.t, inputs.accepted(self.rng, name, 4))
 
     def divide(self, name, net, limit, k):
         """Divides a net, or reports on it with its own list if it has one; answers what `call` does."""
-        n, ties = len(self.nets[net][0]), self.book.nets.get(net)
-        flat = self.edges(net) if ties is None else nets.flat(ties)
+        flat = self.own_edges(net)
         others = {"limit": limit, "blocks": k, "block_loads": nets.garbage(self.rng, k)}
         others |= {"edges": flat, "edge_blocks": nets.garbage(self.rng, len(flat) // 2)}
-        others |= {table: nets.garbage(self.rng, n) for table in PRESENT[name].named("!") if table not in others}
-        return self.call(name, net, **others)
+        return self.call(name, net, **(self.written(name, net) | others))
+
+    def own_edges(self, net):
+        """A net's own list if it has one."""
+        ties = self.book.nets.get(net)
+        return self.edges(net) if ties is None else nets.flat(ties)
+
+    def written(self, name, net):
+        """The tables that a call writes, as long as a net."""
+        return {table: nets.garbage(self.rng, len(self.nets[net][0])) for table in PRESENT[name].named("!")}
+
+    def two_ranks(self, net):
+        """Of a net; now and then one of them is n."""
+        return self.rng.choices(range(max(1, len(self.nets[net][0]) + (self.rng.random() < 0.1))), k=2)
+
+    def separate(self, net, one, other):
+        """Asks what lies between two ranks of a net; answers what `call` does."""
+        return self.call("separate", net, **self.written("separate", net), one=one, other=other, edges=self.own_edges(net))
 
     def index(self, net):
         """Indexes a net's own list if it has one, and asks for a rank; the net's list may have come in parts."""
@@ -142,6 +161,34 @@ class History:
             given |= {table: nets.garbage(self.rng, len(end)) for table, end in PRESENT["report"].work_end(given).items()}
             number, _ = PRESENT["report"].run(self.t, given)
             self.t.true(number in (0, 22), number, net, ties)
+        if "separate" in PRESENT:
+            given = inputs.asked_between(self.rng, n, ties, *self.rng.choices(range(n), k=2)) | {"parents": net[0], "weights": net[1]}
+            number, _ = PRESENT["separate"].run(self.t, inputs.with_work(self.rng, "separate", given))
+            self.t.true(number in (0, 31), number, net, ties)
+
+
+class Asked(History):
+    """A history in which each net with a list is asked for something after every call; what is met is counted."""
+
+    def __init__(self, t, rng, most=8):
+        super().__init__(t, rng, most)
+        self.met = collections.Counter()
+
+    def step(self):
+        super().step()
+        for net, ties in self.book.nets.items():
+            if ties is not None:
+                self.ask(net, ties)
+
+
+def met_in(histories):
+    """What is met in histories of two dozen calls each."""
+    met = collections.Counter()
+    for history in histories:
+        for _ in range(24):
+            history.step()
+        met += history.met
+    return met
 
 
 @test(at_least=700_000)
@@ -165,5 +212,7 @@ def histories(t):
         t.true(files > 300, files)
     if "index" in PRESENT:
         wanted |= {("index", 0), ("index", 1), ("index", 2), ("index", 4), ("index", 5), ("query", 0), ("query", 1), ("query", 30), ("query", 4)}
+    if "separate" in PRESENT:
+        wanted |= {("separate", number) for number in (0, 1, 2, 30, 4, 5, 23, 31)}
     t.same(wanted - seen, set(), "answers that no history met")
     t.true(listed > 5000 and long > 500, listed, long)

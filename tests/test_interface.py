@@ -7,7 +7,7 @@ import subprocess
 import tempfile
 
 from harness import test
-from library import CALLS, CODES, LIBRARY, PRESENT, ROOT
+from library import CALLS, LIBRARY, PRESENT, ROOT
 from oracle import calls
 from oracle.forest import ABSENT
 
@@ -27,7 +27,7 @@ def calls_agree(t):
 
 
 def declaration(call, name):
-    kind, type_ = call.kinds[name], {"I": "uint32_t", "B": "uint8_t", "Q": "uint64_t"}[CODES.get(name, "I")]
+    kind, type_ = call.kinds[name], {"I": "uint32_t", "B": "uint8_t", "Q": "uint64_t"}[call.code(name)]
     if kind == "#":
         return f"uint32_t {name}"
     if kind == "@":
@@ -64,7 +64,7 @@ def rust_constants(t):
            [(name.replace("_", ""), number) for name, number in defined])
 
 
-@test(at_least=8)
+@test(at_least=10)
 def no_pointer(t):
     """The pointer of a table of length 0 is not followed."""
     none, entries = (None, ctypes.c_size_t(0)), (ctypes.c_uint32 * 2)(5, 5)
@@ -78,6 +78,11 @@ def no_pointer(t):
     cells = ctypes.byref(ctypes.c_uint64(7)), ctypes.byref(ctypes.c_uint64(7))
     t.same(LIBRARY.niqastul_query(*table, *none, ctypes.c_uint32(0), *cells), 0)
     t.same(LIBRARY.niqastul_query(*none, *none, ctypes.c_uint32(0), *cells), 2)
+    parents, tables = (ctypes.c_uint32 * 2)(ABSENT, ABSENT), [((ctypes.c_uint32 * 2)(), ctypes.c_size_t(2)) for _ in range(7)]
+    written, cells = [part for its in tables[1:] for part in its], [ctypes.c_uint32(7), ctypes.c_uint32(7)]
+    lent = parents, ctypes.c_size_t(2), *tables[0], ctypes.c_uint32(0), ctypes.c_uint32(1), *none, *written, *map(ctypes.byref, cells)
+    t.same(LIBRARY.niqastul_separate(*lent), 0, "two vertices and no edges")
+    t.same([cell.value for cell in cells], [0, ABSENT])
 
 
 @test(at_least=6)

@@ -5,7 +5,7 @@ from array import array
 
 from arrays import asked, made_index, run, zeros
 from harness import test
-from library import CODES, PRESENT
+from library import PRESENT
 from oracle import calls
 from oracle.forest import ABSENT
 
@@ -80,7 +80,7 @@ def one_vertex_too_many(t):
     one = array("I", [ABSENT])
     for name, call in PRESENT.items():
         for length in (MOST + 1, 1):
-            tables = {table: array(CODES.get(table, "I"), [5] * length) for table, kind in call.kinds.items() if kind != "#"}
+            tables = {table: array(call.code(table), [5] * length) for table, kind in call.kinds.items() if kind != "#"}
             tables |= {table: 1 for table in call.named("#")}
             tables[call.counted] = array("I", [5]) * (MOST + 1 + call.beyond_n)
             t.same(run(name, **tables), 1, name)
@@ -189,8 +189,12 @@ def report(net, edges, limit, blocks):
     n = len(net[0])
     of_n = ("carried", "top", "block", "reach", "block_count", "edges_taken", "compared_parents", "compared_weights")
     tables = {table: array("I", [7]) * n for table in of_n} | {"block_loads": zeros(blocks), "edge_blocks": zeros(len(edges) // 2)}
-    tables |= {cell: array(CODES.get(cell, "I"), [7]) for cell in PRESENT["report"].named("@")}
+    tables |= sevens_in_cells("report")
     return run("report", parents=net[0], weights=net[1], limit=limit, blocks=blocks, edges=edges, **tables), tables
+
+
+def sevens_in_cells(name):
+    return {cell: array(PRESENT[name].code(cell), [7]) for cell in PRESENT[name].named("@")}
 
 
 @test(at_least=9, given="report" in PRESENT)
@@ -235,6 +239,73 @@ def longest_report(t):
     t.same(report(net, edges, half, 2)[0], 4, "the last edge names n")
     edges[-1] = 2
     t.same(report(net, edges, half - 1, 2)[0], 20, "20 before 22")
+
+
+def separate(net, one, other, edges):
+    """Asks what lies between two ranks of a net; answers the number, the tables by name, and both cells."""
+    tables = {table: array("I", [7]) * len(net[0]) for table in PRESENT["separate"].named("!")} | sevens_in_cells("separate")
+    number = run("separate", parents=net[0], weights=net[1], one=one, other=other, edges=edges, **tables)
+    return number, tables, [tables["count"][0], tables["lowest"][0]]
+
+
+def separated(t, net, edges, one, other, above_both, *context):
+    """Two ranks, either way round, have these vertices above both; the rest of the table is as it was."""
+    for ranks in ((one, other), (other, one)):
+        number, after, cells = separate(net, *ranks, edges)
+        t.same((number, cells), (0, [len(above_both), above_both[0] if above_both else ABSENT]), ranks, *context)
+        t.true(after["separator"] == above_both + array("I", [7]) * (len(net[0]) - len(above_both)), "separator", ranks, *context)
+        t.true((after["compared_parents"], after["compared_weights"]) == net, "the net of the edges", ranks, *context)
+
+
+def related(t, net, edges, one, other, *context):
+    """Two ranks, either way round, are refused with 31."""
+    for ranks in ((one, other), (other, one)):
+        number, after, cells = separate(net, *ranks, edges)
+        t.same((number, cells), (31, [7, 7]), ranks, *context)
+        t.same(after["separator"].count(7), len(net[0]), "as it was", ranks, *context)
+        t.true((after["compared_parents"], after["compared_weights"]) == net, "the net of the edges", ranks, *context)
+
+
+@test(at_least=50, given="separate" in PRESENT)
+def farthest_apart(t):
+    """1,000,000 vertices: two paths side by side, which meet at the top or not at all, and a path above two leaves. In each of them the
+    most that a walk from two vertices upward can take."""
+    last = MOST - 1
+    apart = array("I", [end for x in range(last - 1) for end in (x, x + 2)])
+    meeting, forked = apart + array("I", [last - 1, last]), array("I", [0, 2] + [end for x in range(1, last) for end in (x, x + 1)])
+    up = array("I", range(2, MOST))
+    net = grown(t, MOST, meeting, up + array("I", [last, ABSENT]), "two paths to one top")
+    separated(t, net, meeting, 0, 1, array("I", [last]), "two paths to one top")
+    separated(t, net, meeting, 0, last - 2, array("I", [last]), "the lower end and the upper end")
+    related(t, net, meeting, 0, last - 1, "half a million above")
+    related(t, net, meeting, 1, last, "the top")
+    number, _, cells = separate(net, 0, 1, apart)
+    t.same((number, cells), (23, [7, 7]), "all edges but one")
+    net = grown(t, MOST, apart, up + array("I", [ABSENT] * 2), "two trees")
+    separated(t, net, apart, 0, 1, zeros(0), "two trees")
+    related(t, net, apart, 1, last, "in one of two trees")
+    net = grown(t, MOST, forked, array("I", [2]) + up + array("I", [ABSENT]), "two leaves")
+    separated(t, net, forked, 0, 1, up, "all above both")
+    related(t, net, forked, last, last, "the top itself")
+    for one, other in ((0, MOST), (MOST, 0)):
+        t.same(separate(net, one, other, array("I", [0, 0]))[::2], (4, [7, 7]), "a rank too many")
+
+
+@test(at_least=20, given="separate" in PRESENT)
+def longest_separated_list(t):
+    """A list of 16,000,000 edges is compared; one more is 20, before 23 and 31, unless an edge of it is faulty or a rank is."""
+    edges, net = a_full_list()
+    separated(t, net, edges, 0, 1, array("I", [2]))
+    related(t, net, edges, 0, 2)
+    edges += array("I", [1, 2])
+    for other in (1, 0):
+        number, after, cells = separate(net, 0, other, edges)
+        t.same((number, cells), (20, [7, 7]), other)
+        t.same([list(after[name]) for name in PRESENT["separate"].named("!")], [[7, 7, 7]] * 3, "as they were")
+    for end, number in ((1, 5), (3, 4)):
+        edges[-1] = end
+        t.same(separate(net, 0, 1, edges)[::2], (number, [7, 7]), "the last edge is faulty", end)
+        t.same(separate(net, 3, 1, edges)[0], 4, "and a rank")
 
 
 @test(at_least=12)

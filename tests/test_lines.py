@@ -5,7 +5,7 @@ import re
 from pathlib import Path
 
 from harness import test
-from oracle import calls
+from oracle import between, calls
 from oracle.forest import ABSENT
 
 CRATES = Path(__file__).resolve().parent.parent / "crates"
@@ -70,19 +70,30 @@ def report(parents, weights, numbers, sizes):
     limit, k, edges = *numbers[:2], numbers[2:]
     n, loads, blocks, lower = sizes
     tables = nines(n, n, n, loads, blocks, n, n, n, n, n)
-    refusal = calls.report_refusal(parents, weights, limit, k, edges, tables)
-    number, left = work(len(parents), len(parents) + len(edges) // 2, refusal, [n, n, lower], changed=(0, 23))
-    if number != refusal:
-        return number, *tables, *left
-    *answer, bound, volume, quotient, remainder = calls.report(parents, weights, limit, k, edges, *tables)
-    return (number if number else (bound, volume, quotient, remainder, sum(weights))), *answer[1:], *left
+    outcome = calls.report(parents, weights, limit, k, edges, *tables)
+    return compared(parents, edges, tables, outcome, [n, n, lower],
+                    lambda *totals: "bound %d, volume %d, share %d %d, sum %d" % (*totals, sum(weights)))
+
+
+def separate(parents, weights, numbers, sizes):
+    one, other, *edges = numbers
+    n, lower = sizes
+    tables = nines(n, n, n)
+    outcome = between.separate(parents, weights, one, other, edges, *tables)
+    return compared(parents, edges, tables, outcome, [n, n, lower],
+                    lambda count, lowest: f"count {count}, lowest {'none' if lowest == ABSENT else lowest}")
+
+
+def compared(parents, edges, tables, outcome, sizes, shown):
+    """A call given the net's own edges, which it compares behind all refusals but 23 and 31; what is accepted is said with the answer."""
+    refusal, after, answers = outcome[0], outcome[1:len(tables) + 1], outcome[len(tables) + 1:]
+    number, left = work(len(parents), len(parents) + len(edges) // 2, refusal, sizes, changed=(0, 23, 31))
+    return number or shown(*answers), *(after if number == refusal else tables), *left
 
 
 def answer_text(answer):
     if isinstance(answer, str):
         return "accepted, " + answer
-    if isinstance(answer, tuple):
-        return "accepted, bound %d, volume %d, share %d %d, sum %d" % answer
     return f"refused {answer}" if answer else "accepted"
 
 

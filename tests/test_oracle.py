@@ -1,11 +1,11 @@
 """The oracle itself: document 01's nets on paper, its whole case, the laws that the documents state, and runs, moved forests, ties
-taken and even shares worked by hand."""
+taken, even shares and marks between two others worked by hand."""
 
 import random
 
 import nets
 from harness import test
-from oracle import blocks, calls, neighbours
+from oracle import between, blocks, calls, neighbours
 from oracle.forest import ABSENT, links, loads_of, parents_of, reaches
 
 NONE = ABSENT
@@ -176,3 +176,34 @@ def share_by_hand(t):
                             ([5], 6, (0, 5)), ([6], 6, (1, 0)), ([3, 4], 6, (1, 1)), ([5, 6], 6, (1, 5)), ([7, 5], 6, (2, 0)),
                             ([8_000_000, 8_000_000], 999, (16_016, 16))):
         t.same(calls.share_of(loads, k), share, loads, k)
+
+
+@test(at_least=23)
+def between_by_hand(t):
+    """Document 02, Paper 5: the marks above both at the front of the table, lowest first; each refusal, and the first of several."""
+    parents, loads = [2, 3, 4, 4, 5, NONE, NONE], [3, 2, 1, 0, 0, 0, 0]
+    ties, lent = [0, 2, 0, 4, 1, 3, 1, 4, 2, 5, 2, 0], [[9] * 7 for _ in range(3)]
+
+    def asked(one, other, flat=ties, loads=loads, parents=parents, lent=lent):
+        return between.separate(parents, loads, one, other, flat, *lent)
+
+    for one, other in ((0, 1), (2, 3), (3, 0), (2, 1)):
+        t.same(asked(one, other), (0, [4, 5, 9, 9, 9, 9, 9], parents, loads, 2, 4), one, other)
+    for one, other in ((0, 6), (6, 5)):
+        t.same(asked(one, other), (0, [9] * 7, parents, loads, 0, NONE), "no chain", one, other)
+    for one, other in ((0, 0), (6, 6), (0, 2), (2, 0), (5, 1)):
+        t.same(asked(one, other), (31, lent[0], parents, loads, None, None), one, other)
+    unchanged = *lent, None, None
+    fewer = parents_of(7, [(0, 4), (1, 3), (1, 4), (2, 5), (2, 0)]), [2, 2, 1, 0, 0, 0, 0]
+    t.same(asked(0, 0, ties[2:]), (23, lent[0], *fewer, None, None), "23 before 31")
+    t.same(asked(0, 7, [3, 3]), (4, *unchanged), "before any tie is looked at")
+    t.same(asked(7, 0, [3, 3]), (4, *unchanged), "either rank")
+    t.same(asked(0, 0, [3, 3, 7, 7]), (5, *unchanged), "the first faulty tie")
+    t.same(asked(0, 0, [3, 7, 3, 3]), (4, *unchanged), "the first faulty tie")
+    t.same(asked(7, 7, [3, 3], [16_000_000, 1, 0, 0, 0, 0, 0]), (30, *unchanged), "30 before 4")
+    t.same(asked(7, 7, [3, 3], parents=[0] * 7), (30, *unchanged), "a damaged net")
+    t.same(asked(7, 7, [3], parents=[0] * 7), (2, *unchanged), "an odd list")
+    for place in range(3):
+        short = lent[:place] + [[9] * 6] + lent[place + 1:]
+        t.same(asked(7, 7, parents=[0] * 7, lent=short), (2, *short, None, None), "of another length", place)
+    t.same(asked(0, 0, [3], parents=[]), (1, *unchanged), "1 before 2")

@@ -10,7 +10,8 @@ from library import PRESENT
 from oracle import calls
 from oracle.forest import ABSENT
 
-# the refusals that the documents give to each call; 20 of a report and of an index takes 16,000,001 edges and is in test_limits
+# the refusals that the documents give to each call; 20 of a report, of a separator and of an index takes 16,000,001 edges and is in
+# test_limits
 NUMBERS = {
     "relabel": {1, 2, 3, 4, 5},
     "start": {1, 2},
@@ -20,6 +21,7 @@ NUMBERS = {
     "read": {1, 2, 6, 7, 20},
     "divide": {1, 2, 8, 30, 22},
     "report": {1, 2, 8, 30, 4, 5, 22, 23},
+    "separate": {1, 2, 30, 4, 5, 23, 31},
     "index": {1, 2, 4, 5},
     "query": {1, 2, 30, 4},
 }
@@ -102,7 +104,7 @@ def damaged_nets(t):
 def tiny(rng, name, n):
     """An input of n vertices without edges."""
     given = {table: [0] * n for table in PRESENT[name].kinds} | {cell: [0] for cell in PRESENT[name].named("@")}
-    given |= {"edges": [], "edge_blocks": [], "limit": 3, "blocks": n, "bytes": [1] * (8 * n)}
+    given |= {"edges": [], "edge_blocks": [], "limit": 3, "blocks": n, "bytes": [1] * (8 * n), "one": 0, "other": n - 1}
     given |= {"parents": [ABSENT] * n, "other_parents": [ABSENT] * n}
     return given | {table: [9] * len(end) for table, end in PRESENT[name].work_end(given).items()}
 

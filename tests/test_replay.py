@@ -29,9 +29,10 @@ def replayed(t):
         for place, line in enumerate(lines):
             t.same(line, model.step(), "seed", str(seed), "call", str(place))
         seen |= set(model.answers)
-    wanted = {(name, 0) for name in ("start", "add", "join", "save", "read", "relabel", "divide", "report", "index", "query")}
+    wanted = {(name, 0) for name in ("start", "add", "join", "save", "read", "relabel", "divide", "report", "separate", "index", "query")}
     wanted |= {("start", 2), ("add", 2), ("add", 30), ("add", 4), ("add", 5), ("add", 20), ("join", 2), ("join", 21), ("join", 30), ("join", 20)}
     wanted |= {("save", 2), ("save", 30), ("read", 2), ("read", 6), ("read", 7), ("read", 20), ("relabel", 3), ("divide", 8), ("divide", 22),
                ("report", 2), ("report", 22), ("report", 23)}
+    wanted |= {("separate", number) for number in (2, 30, 4, 5, 23, 31)}
     wanted |= {("index", 2), ("index", 4), ("index", 5), ("query", 2), ("query", 30), ("query", 4)}
     t.same(wanted - seen, set(), "answers that no history met")

@@ -1,7 +1,6 @@
 """Even share (document 02, Paper 4): the total divided by k, next to multiples of k, at the largest total, between the calls of
 histories, and in the last line that `blocks` prints."""
 
-import collections
 import random
 import re
 import subprocess
@@ -12,7 +11,7 @@ from harness import test
 from oracle import calls
 from oracle.forest import loads_of
 from test_blocks import THERE, run
-from test_histories import History
+from test_histories import Asked, met_in
 from test_limits import a_full_list, figures, report
 from test_oracle import file_of
 from test_replay import compiled
@@ -65,20 +64,11 @@ def largest_total(t):
     t.same((number, figures(after)[2:]), (0, [15_999, 999]))
 
 
-class Shared(History):
-    """A history in which each net with a list is reported on after every call: the even share is that of the book's list."""
+class Shared(Asked):
+    """The even share is that of the book's list."""
 
-    def __init__(self, t, rng):
-        super().__init__(t, rng)
-        self.met = collections.Counter()
-
-    def step(self):
-        super().step()
-        for net, ties in self.book.nets.items():
-            if ties is not None:
-                self.report(net, ties, self.rng.choice((1, 2, 3, 7, 1000)))
-
-    def report(self, net, ties, k):
+    def ask(self, net, ties):
+        k = self.rng.choice((1, 2, 3, 7, 1000))
         accepted, after = self.divide("report", net, calls.MAX_LIMIT, k)
         if accepted:
             share = after["quotient"] + after["remainder"]
@@ -89,12 +79,7 @@ class Shared(History):
 @test(at_least=300_000)
 def histories(t):
     """Reports stand between calls of every kind, accepted and refused."""
-    met = collections.Counter()
-    for seed in range(300):
-        history = Shared(t, random.Random(seed))
-        for _ in range(24):
-            history.step()
-        met += history.met
+    met = met_in(Shared(t, random.Random(seed)) for seed in range(300))
     t.true(len(met) == 4 and min(met.values()) > 500, met)
 
 

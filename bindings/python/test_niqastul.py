@@ -3,7 +3,7 @@
 import unittest
 from array import array
 
-from niqastul import ABSENT, Index, Net, Refused, Share, relabel
+from niqastul import ABSENT, Index, Net, Refused, Separator, Share, relabel
 
 
 def whole_case():
@@ -131,6 +131,32 @@ class Calls(unittest.TestCase):
             self.assertEqual(share, Share(quotient, remainder, blocks))
             self.assertEqual(share.check_sum(), sum(its.weights))
         self.assertEqual(Net(2).report(1, 3, []).share, Share(0, 0, 3))
+
+    def test_separate(self):
+        """Document 01's whole case, and a vertex without edges."""
+        edges = whole_case()
+        its = net(7, edges)
+        for one, other, vertices in ((0, 1, [4, 5]), (2, 3, [4, 5]), (3, 0, [4, 5]), (6, 1, []), (5, 6, [])):
+            separator = its.separate(one, other, edges)
+            self.assertEqual((list(separator.vertices), separator.lowest), (vertices, vertices[0] if vertices else None))
+        self.assertEqual(its.separate(0, 1, list(edges)), Separator(array("I", [4, 5]), 4))
+        self.assertEqual(Net(2).separate(1, 0, []), Separator(array("I"), None))
+
+    def test_separate_refusals(self):
+        edges = whole_case()
+        its = net(7, edges)
+        for one, other in ((0, 0), (6, 6), (0, 2), (2, 0), (5, 1)):
+            self.refused(31, its.separate, one, other, edges)
+            self.refused(23, its.separate, one, other, edges[2:])
+        for rank in (-1, 7, 2 ** 32 - 1, 2 ** 32, 2 ** 64 + 1):
+            self.refused(4, its.separate, rank, 0, [1, 1])
+            self.refused(4, its.separate, 0, rank, [1, 1])
+        self.refused(5, its.separate, 0, 0, [1, 1, 0, 7])
+        self.refused(4, its.separate, 0, 0, [0, 7, 1, 1])
+        self.refused(2, its.separate, 7, 7, edges[1:])
+        its.parents[6] = 0
+        self.refused(30, its.separate, 7, 0, edges)
+        self.assertEqual(str(Refused(31)), "refused 31: the two ranks are equal, or one stands above the other")
 
     def test_index(self):
         edges = whole_case()

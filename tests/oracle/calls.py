@@ -2,7 +2,7 @@
 accepted), then the tables that it was lent to write, as they are afterwards, then its other answers, None if refused. No list that is
 given is changed."""
 
-from .forest import ABSENT, links, loads_of, parents_of, reaches, ties_of
+from .forest import ABSENT, links, loads_of, net_of, parents_of, reaches, ties_of
 
 MAX_MARKS = 1_000_000
 MAX_TOTAL = 16_000_000
@@ -10,8 +10,8 @@ MAX_TIES = 16_000_000
 MAX_LIMIT = 16_000_000
 MAX_BLOCKS = 1_000
 
-# "Order where several apply to a call"; 4 and 5 share a place.
-ORDER = [1, 2, 6, 3, 8, 21, 30, 4, 5, 7, 20, 22, 23]
+# "Order where several apply to a call"; 4 and 5 share a place. Document 02 puts 31 after 23.
+ORDER = [1, 2, 6, 3, 8, 21, 30, 4, 5, 7, 20, 22, 23, 31]
 
 
 def bad_count(n):
@@ -36,6 +36,16 @@ def fault(n, flat):
         if a == b:
             return 5
     return 0
+
+
+def list_refusal(n, flat):
+    """Of a list given as a net's own: 4 or 5 at the first faulty tie, then 20."""
+    return fault(n, flat) or (20 if len(flat) // 2 > MAX_TIES else 0)
+
+
+def other_net(parents, loads, flat):
+    """The ties have other parents or loads than the net."""
+    return net_of(len(parents), flat) != (parents, loads)
 
 
 def bad_order(order):
@@ -338,16 +348,11 @@ def report_refusal(parents, loads, limit, k, flat, tables):
         return 8
     if damaged(parents, loads):
         return 30
-    if fault(n, flat):
-        return fault(n, flat)
-    if len(flat) // 2 > MAX_TIES:
-        return 20
+    if list_refusal(n, flat):
+        return list_refusal(n, flat)
     if any(load > limit for load in loads):
         return 22
-    ties = ties_of(flat)
-    if (parents_of(n, ties), loads_of(n, ties)) != (parents, loads):
-        return 23
-    return 0
+    return 23 if other_net(parents, loads, flat) else 0
 
 
 def report(parents, loads, limit, k, flat, *tables):
@@ -356,11 +361,11 @@ def report(parents, loads, limit, k, flat, *tables):
     number = report_refusal(parents, loads, limit, k, flat, tables)
     n, ties = len(parents), ties_of(flat)
     if number == 23:
-        return (23, *tables[:8], parents_of(n, ties), loads_of(n, ties), *[None] * 4)
+        return (23, *tables[:8], *net_of(n, flat), *[None] * 4)
     if number:
         return (number, *tables, *[None] * 4)
     carried, tops, blocks, block_loads = division(parents, loads, limit, k)
     tie_blocks = tie_blocks_of(ties, blocks)
     block_counts = block_counts_of(n, ties, tie_blocks)
     return (0, carried, tops, blocks, block_loads, tie_blocks, reaches(parents, ties), block_counts, ties_taken_of(n, ties, tie_blocks, k),
-            parents_of(n, ties), loads_of(n, ties), bound_of(parents, ties, tops), volume_of(block_counts), *share_of(loads, k))
+            *net_of(n, flat), bound_of(parents, ties, tops), volume_of(block_counts), *share_of(loads, k))

@@ -32,6 +32,12 @@ def loads_of(n, ties):
     return loads
 
 
+def net_of(n, flat):
+    """The parents and the loads that the ties of a flat list give."""
+    ties = ties_of(flat)
+    return parents_of(n, ties), loads_of(n, ties)
+
+
 def links(parents):
     """The links of a table of parents: each rank that has a parent, with it."""
     return [(x, p) for x, p in enumerate(parents) if p != ABSENT]

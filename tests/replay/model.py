@@ -1,6 +1,6 @@
 """The history of replay.c, carried out by the oracle alone: the same draws in the same order, and the same lines."""
 
-from oracle import calls, neighbours
+from oracle import between, calls, neighbours
 
 NETS, FILES, ROOM, EDGES, BLOCKS = 5, 3, 100, 40, 4
 ANY = 0xFFFFFFFF
@@ -131,13 +131,28 @@ class Model:
         lent = [self.lent(length) for length in (n, n, n, blocks, m, n, n, n, n, n)]
         lengths = [n, n, n + m]
         work = [self.lent(length) for length in lengths]
-        number, *after, bound, volume, quotient, remainder = calls.report(*self.nets[net], limit, blocks, flat, *lent)
+        outcome = calls.report(*self.nets[net], limit, blocks, flat, *lent)
+        return f"report {net}", *self.compared(lengths, outcome, lent, work)
+
+    def separate(self, net):
+        """Two ranks, on the list that was last lent to an addition."""
+        flat, n = self.latest[net], len(self.nets[net][0])
+        one, other = self.draw(self.vertices(net) + 1), self.draw(self.vertices(net) + 1)
+        lent = [self.lent(n) for _ in range(3)]
+        lengths = [n, n, n + len(flat) // 2]
+        work = [self.lent(length) for length in lengths]
+        outcome = between.separate(*self.nets[net], one, other, flat, *lent)
+        return f"separate {net}", *self.compared(lengths, outcome, lent, work)
+
+    def compared(self, lengths, outcome, lent, work):
+        """A call given the net's own edges: its work tables end as zeros after 23 and 31 too. Each cell holds 7 before."""
+        number, after, cells = outcome[0], list(outcome[1:len(lent) + 1]), outcome[len(lent) + 1:]
         if number != 1 and [len(table) for table in work] != lengths:
             number, after = 2, lent
-        if number in (0, 23):
+        if number in (0, 23, 31):
             work = [[0] * length for length in lengths]
-        self.figures = f" {bound} {volume} {quotient} {remainder}" if number == 0 else " 7 7 7 7"
-        return f"report {net}", number, after + work
+        self.figures = "".join(f" {7 if number else cell}" for cell in cells)
+        return number, after + work
 
     def index(self, net):
         """Of the list that was last lent to an addition, and some more."""
@@ -155,7 +170,7 @@ class Model:
     def step(self):
         """Makes the next call; answers its line."""
         self.figures = ""
-        call, net = self.draw(25), self.draw(NETS)
+        call, net = self.draw(27), self.draw(NETS)
         other, file = (net + 1 + self.draw(NETS - 1)) % NETS, self.draw(FILES)
         if call == 0:
             name, number, lent = self.start(net)
@@ -175,6 +190,8 @@ class Model:
             name, number, lent = self.report(net)
         elif call < 23:
             name, number, lent = self.index(net)
+        elif call < 25:
+            name, number, lent = self.separate(net)
         else:
             name, number, lent = self.query(net)
         self.answers.append((name.split()[0], number))

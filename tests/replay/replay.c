@@ -192,6 +192,21 @@ static void report(int net)
     printf(" %" PRIu64 " %" PRIu64 " %u %u", bound, volume, quotient, remainder);
 }
 
+/* Two ranks, on the list that was last lent to an addition. */
+static void separate(int net)
+{
+    Table *p = &parents[net], *w = &weights[net], *list = &latest[net];
+    size_t n = p->length;
+    uint32_t one = draw(vertices(net) + 1), other = draw(vertices(net) + 1), count = 7, lowest = 7;
+    Table separator = lent(n), its_parents = lent(n), its_weights = lent(n);
+    Table ends = lent(n), jump = lent(n), lower = lent(niqastul_add_lower(n, list->length));
+    printf("separate %d %u", net, niqastul_separate(p->entry, n, w->entry, w->length, one, other, list->entry, list->length,
+        separator.entry, separator.length, its_parents.entry, its_parents.length, its_weights.entry, its_weights.length,
+        ends.entry, ends.length, jump.entry, jump.length, lower.entry, lower.length, &count, &lowest));
+    print(&separator), print(&its_parents), print(&its_weights), print(&ends), print(&jump), print(&lower);
+    printf(" %u %u", count, lowest);
+}
+
 /* The list that was last lent to an addition, and some more. */
 static void make_index(int net)
 {
@@ -213,7 +228,7 @@ static void query(int net)
 
 static void step(void)
 {
-    uint32_t call = draw(25);
+    uint32_t call = draw(27);
     int net = (int)draw(NETS), other = (net + 1 + (int)draw(NETS - 1)) % NETS, file = (int)draw(FILES);
     if (call == 0) start(net);
     else if (call < 8) add(net);
@@ -224,6 +239,7 @@ static void step(void)
     else if (call < 20) divide(net);
     else if (call < 22) report(net);
     else if (call < 23) make_index(net);
+    else if (call < 25) separate(net);
     else query(net);
     printf(" :");
     for (int i = 0; i < NETS; i++) print(&parents[i]), print(&weights[i]);

@@ -7,6 +7,7 @@
     net.parents, net.weights            the elimination forest, ABSENT for no parent; the edges by their lower end
     net.divide(limit, blocks)           the forest cut into groups that carry at most the limit, and packed into blocks
     net.report(limit, blocks, edges)    that, and what it costs: block counts, bound and volume of communication; and the even share
+    net.separate(one, other, edges)     what lies between two vertices: those above both, one of which every chain of edges passes
     relabel(order, edges)               an edge list in vertex numbers, as ranks in an order
     index = Index(vertices, edges)      beside an edge list, in ranks: for each vertex its neighbours, in the order of the list
     index.neighbours(rank)              those of a rank
@@ -22,7 +23,7 @@ import collections
 import ctypes
 from array import array
 
-from .calls import Refused, call, table, within, zeros
+from .calls import Refused, call, rank_word, table, within, zeros
 from .index import Index
 
 ABSENT = 0xFFFFFFFF
@@ -38,6 +39,10 @@ Division = collections.namedtuple("Division", "carried top block block_loads")
 # edges, in the order of the list, that count took, up to and with the first by which all blocks are met, or all; the sum of the reaches
 # of the vertices that are cut off, and the sum of (block count - 1), which is never above it; the even share.
 Report = collections.namedtuple("Report", "division edge_blocks reach block_count edges_taken bound volume share")
+
+# What lies between two vertices: those above both, by rising rank, one of which every chain of edges from one to the other passes; and
+# the lowest of them, None if there are none, so that there is no chain.
+Separator = collections.namedtuple("Separator", "vertices lowest")
 
 
 class Share(collections.namedtuple("Share", "quotient remainder blocks")):
@@ -72,7 +77,7 @@ class Net:
         """A call with work tables, the last of which is longer than the net by so many entries; answers where the forest moved."""
         n, moved = len(self.parents), ctypes.c_uint32()
         call(name, self.parents, self.weights, *lent, zeros(n), zeros(n), zeros(n + more), moved)
-        return None if moved.value == ABSENT else moved.value
+        return told(moved)
 
     def save(self):
         """The net as bytes: for each vertex its parent and its weight, little-endian 32-bit numbers."""
@@ -96,10 +101,26 @@ class Net:
         n, limit, blocks, edges = len(self.parents), within(limit, MAX_LIMIT), within(blocks, MAX_BLOCKS), table(edges)
         m = len(edges) // 2
         its = Division(zeros(n), zeros(n), zeros(n), zeros(blocks))
-        tables, work = [zeros(length) for length in (m, n, n, n)], [zeros(length) for length in (n, n, n, n, n + m)]
+        tables, lent = [zeros(length) for length in (m, n, n, n)], self._to_compare(edges)
         bound, volume, quotient, remainder = ctypes.c_uint64(), ctypes.c_uint64(), ctypes.c_uint32(), ctypes.c_uint32()
-        call("report", self.parents, self.weights, limit, blocks, edges, *its, *tables, *work, bound, volume, quotient, remainder)
+        call("report", self.parents, self.weights, limit, blocks, edges, *its, *tables, *lent, bound, volume, quotient, remainder)
         return Report(its, *tables, bound.value, volume.value, Share(quotient.value, remainder.value, blocks))
+
+    def separate(self, one, other, edges):
+        """What lies between two vertices of which neither is above the other, given all edges of the net in any order: a Separator."""
+        edges, separator, count, lowest = table(edges), zeros(len(self.parents)), ctypes.c_uint32(), ctypes.c_uint32()
+        call("separate", self.parents, self.weights, rank_word(one), rank_word(other), edges, separator, *self._to_compare(edges), count, lowest)
+        return Separator(separator[:count.value], told(lowest))
+
+    def _to_compare(self, edges):
+        """The comparison tables and work tables of a call that is given the net's own edges."""
+        n = len(self.parents)
+        return [zeros(length) for length in (n, n, n, n, n + len(edges) // 2)]
+
+
+def told(cell):
+    """The rank that a cell tells, or None."""
+    return None if cell.value == ABSENT else cell.value
 
 
 def relabel(order, edges):

@@ -3,10 +3,11 @@
 import argparse
 import sys
 
-from . import Refused, busy, files, links, neighbours, picture, split, together
+from . import Refused, between, busy, files, links, neighbours, picture, split, together
 from .progress import Progress
 
-ABOUT = "Nets as files: grown, added to, joined, split into blocks, laid together again, drawn, and asked for neighbours and busy marks."
+ABOUT = """Nets as files: grown, added to, joined, split into blocks, laid together again, drawn, and asked for neighbours, busy marks and
+what lies between two marks."""
 
 FORMATS = """files, little-endian 32-bit numbers without a header:
   marks.ord   the order: mark numbers, the first to be eliminated first
@@ -55,7 +56,11 @@ BUSY = """print the marks that meet every block
 A line for each mark with ties in all blocks, by rising rank: the mark, how many ties it has, and how many of them, in the order of
 ties.rec, it takes to meet all blocks."""
 
-# `[name]` may be left out; of `name..` there are one or more, and they are vertices
+BETWEEN = """print the marks at which the ground can be closed off between two marks
+One line: the marks above both MARKs, lowest rank first. Every chain of ties from one MARK to the other passes one of them. If there are
+none, `none`: no chain of ties joins the two. Refused with 31 if the MARKs are one, or one is above the other."""
+
+# `[name]` may be left out; of `name..` there are one or more, of `name:2` two, and they are vertices
 COMMANDS = (
     (links.grow, "marks.ord ties.rec net.link", GROW),
     (links.add, "marks.ord net.link ties.rec out.link", ADD),
@@ -65,7 +70,10 @@ COMMANDS = (
     (picture.picture, "marks.ord ties.rec want.rec [places.txt] out.svg", PICTURE),
     (neighbours.neighbours, "marks.ord ties.rec MARK..", NEIGHBOURS),
     (busy.busy, "marks.ord ties.rec want.rec", BUSY),
+    (between.between, "marks.ord ties.rec MARK:2", BETWEEN),
 )
+
+VERTICES = {"..": "+", ":2": 2}
 
 
 def parser():
@@ -80,8 +88,8 @@ def parser():
 
 def add_argument(command, name):
     """Answers the name under which the argument is found."""
-    if name.endswith(".."):
-        return command.add_argument(name[:-2], nargs="+", type=vertex).dest
+    if name[-2:] in VERTICES:
+        return command.add_argument(name[:-2], nargs=VERTICES[name[-2:]], type=vertex).dest
     return command.add_argument(name.strip("[]"), nargs="?" if name.startswith("[") else None).dest
 
 

@@ -20,7 +20,10 @@ REASONS = {
     22: "a weight above the limit",
     23: "the edges are not those of the net",
     30: "a net or an index whose tables are damaged",
+    31: "the two ranks are equal, or one stands above the other",
 }
+
+MAX_RANK = 0xFFFFFFFF
 
 
 class Refused(ValueError):
@@ -44,6 +47,11 @@ def within(number, most):
     return number if 0 < number <= most else 0
 
 
+def rank_word(rank):
+    """A rank as it is passed: what does not fit the word is no vertex, and neither is its last number."""
+    return rank if 0 <= rank <= MAX_RANK else MAX_RANK
+
+
 def words(lent):
     """What a number, a cell or a table is passed as."""
     if isinstance(lent, int):
@@ -65,6 +73,6 @@ def library():
     """Loaded at the first call, so that help and what needs no library do without."""
     built = pathlib.Path(__file__).resolve().parents[3] / "target" / "lib" / "libniqastul.so"
     try:
-        return ctypes.CDLL(os.environ.get("NIQASTUL_LIBRARY") or (str(built) if built.exists() else "libniqastul.so.0.5"))
+        return ctypes.CDLL(os.environ.get("NIQASTUL_LIBRARY") or (str(built) if built.exists() else "libniqastul.so.0.6"))
     except OSError as error:
         raise OSError(f"{error}; `make` builds the library, NIQASTUL_LIBRARY names one elsewhere") from error

@@ -1,17 +1,18 @@
 """A net and its division, from files. A run counts as one call: of the refusals that apply, the first in document 01's order is
-given, 1, 6, 3, 8, 4 or 5, 20, 22. Each is the library's own answer but 6, which speaks of files."""
+given, 1, 6, 3, 8, 4 of a mark that is asked for, 4 or 5 of a tie, 20, 22. Each is the library's own answer but 6, which speaks of
+files."""
 
 import collections
 
-from . import Net, Refused, files, relabel
+from . import Index, Net, Refused, files, relabel
 
 # The order, the bytes of the edge file, its edges in ranks, and the net of them.
 Graph = collections.namedtuple("Graph", "order ties edges net")
 
 
-def read(progress, marks, ties):
-    """The graph of an order file and an edge file."""
-    return grown(progress, files.content(marks), files.content(ties))
+def read(progress, marks, ties, asked=()):
+    """The graph of an order file and an edge file, of which some marks are asked for."""
+    return grown(progress, files.content(marks), files.content(ties), asked=asked)
 
 
 def read_divided(progress, marks, ties, want):
@@ -22,13 +23,15 @@ def read_divided(progress, marks, ties, want):
     return graph, limit, graph.net.report(limit, blocks, graph.edges)
 
 
-def grown(progress, marks, ties, want=None):
-    """The graph of the bytes of its files; `want` is only checked here, since its refusals come before those of edges."""
+def grown(progress, marks, ties, want=None, asked=()):
+    """The graph of the bytes of its files; `want` and the marks asked for are only checked here, since their refusals come before those
+    of edges."""
     order = order_of_files(marks, ties, want)
     net = Net(len(order))
     if want is not None:
         # a net without edges can be divided by every limit and number of blocks in range
         Net(1).divide(*files.numbers(want))
+    check_asked(order, asked)
     progress.at("growing the net")
     edges = relabel(order, files.numbers(ties))
     net.add(edges)
@@ -45,3 +48,14 @@ def order_of_files(marks, ties=b"", want=None, link=None):
     order = files.numbers(marks)
     relabel(order, [])
     return order
+
+
+def check_asked(order, asked):
+    """4 of the marks that are asked for. A query of an index without edges looks at the rank alone, and mark numbers are below the same
+    n."""
+    if asked:
+        Index(len(order), []).neighbours(max(asked))
+
+
+def ranks_of(vertices, order):
+    return {vertex: rank for rank, vertex in enumerate(order) if vertex in vertices}

@@ -2,10 +2,9 @@
 
 import ctypes
 
-from .calls import call, table, within, zeros
+from .calls import call, rank_word, table, within, zeros
 
 MAX_VERTICES = 1_000_000
-MAX_RANK = 0xFFFFFFFF
 
 
 class Index:
@@ -22,6 +21,5 @@ class Index:
     def neighbours(self, rank):
         """The other end of each edge at a vertex, in the order of the list: a part of the runs, to be read, and no copy."""
         first, count = ctypes.c_uint64(), ctypes.c_uint64()
-        # what does not fit the word is no vertex, and neither is its last number
-        call("query", self.starts, self.runs, rank if 0 <= rank <= MAX_RANK else MAX_RANK, first, count)
+        call("query", self.starts, self.runs, rank_word(rank), first, count)
         return memoryview(self.runs).toreadonly()[first.value:first.value + count.value]

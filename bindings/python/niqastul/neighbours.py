@@ -8,14 +8,9 @@ def neighbours(progress, marks, ties, asked):
     1, 6, 3, 4 of a mark that is asked for, then 4 or 5 of a tie, 20. Each is the library's own answer but 6."""
     marks, ties = files.content(marks), files.content(ties)
     order = graph.order_of_files(marks, ties)
-    # a query of an index without edges looks at the rank alone, and mark numbers are below the same n
-    Index(len(order), []).neighbours(max(asked))
+    graph.check_asked(order, asked)
     progress.at("indexing the ties")
     index = Index(len(order), relabel(order, files.numbers(ties)))
-    ranks = ranks_of(set(asked), order)
+    ranks = graph.ranks_of(set(asked), order)
     for mark in asked:
         print(mark, *(order[rank] for rank in index.neighbours(ranks[mark])))
-
-
-def ranks_of(vertices, order):
-    return {vertex: rank for rank, vertex in enumerate(order) if vertex in vertices}

@@ -31,7 +31,7 @@ pub const ABSENT: u32 = 0xFFFF_FFFF;
 /// The largest number of vertices of a net or an index.
 pub const MAX_VERTICES: usize = 1_000_000;
 
-/// The largest number of edges of a list that is added, reported on or indexed.
+/// The largest number of edges of a list that is added, given as a net's own or indexed.
 pub const MAX_EDGES: usize = 16_000_000;
 
 /// The largest total of the weights of a net.
@@ -62,7 +62,7 @@ pub enum Refusal {
     /// A net with a parent that is neither absent nor above its vertex, or with too large a total; starts of an index that do not go
     /// from 0 up to the number of its neighbours without falling.
     Damaged = 30,
-    /// The first faulty edge names a vertex out of range, or the rank asked for is out of range.
+    /// The first faulty edge names a vertex out of range, or a rank asked for is out of range.
     BadVertex = 4,
     /// The first faulty edge has one vertex as both its ends.
     Loop = 5,
@@ -74,14 +74,17 @@ pub enum Refusal {
     TooHeavy = 22,
     /// Edges that have other parents or weights than the net.
     OtherEdges = 23,
+    /// The two ranks are equal, or one stands above the other.
+    Related = 31,
 }
 
 impl Refusal {
     #[rustfmt::skip]
-    const ALL: [Refusal; 13] = {
+    const ALL: [Refusal; 14] = {
         use Refusal::*;
         [
             BadCount, WrongLength, BadFile, BadOrder, BadLimit, UnlikeCounts, Damaged, BadVertex, Loop, BadParent, Full, TooHeavy, OtherEdges,
+            Related,
         ]
     };
 
@@ -200,6 +203,37 @@ impl Net {
         )?;
         Ok(Report { division: its, edge_blocks, reach, block_count, edges_taken, bound, volume, share })
     }
+
+    /// What lies between two vertices of which neither stands above the other, given all edges of the net in any order.
+    ///
+    /// ```
+    /// let edges = [0, 2, 1, 2, 2, 3];
+    /// let mut net = niqastul::Net::new(5)?;
+    /// net.add(&edges)?;
+    /// let between = net.separate(0, 1, &edges)?;
+    /// assert_eq!((between.vertices, between.lowest), (vec![2, 3], Some(2)));
+    /// assert_eq!(net.separate(0, 4, &edges)?.lowest, None); // no chain of edges
+    /// assert_eq!(net.separate(0, 3, &edges), Err(niqastul::Refusal::Related));
+    /// # Ok::<(), niqastul::Refusal>(())
+    /// ```
+    pub fn separate(&mut self, one: u32, other: u32, edges: &[u32]) -> Result<Separator, Refusal> {
+        let vertices = self.parents.len();
+        let zeros = || vec![0; vertices];
+        let mut separator = zeros();
+        self.work.resize(vertices, edges.len() / 2);
+        let (count, lowest) = tables::separate(
+            &self.parents,
+            &self.weights,
+            one,
+            other,
+            edges,
+            &mut separator,
+            &mut zeros(),
+            &mut zeros(),
+            &mut self.work,
+        )?;
+        Ok(Separator { vertices: separator[..count as usize].to_vec(), lowest })
+    }
 }
 
 /// A net divided.
@@ -257,6 +291,15 @@ impl Share {
     pub fn check_sum(self) -> u64 {
         u64::from(self.quotient) * u64::from(self.blocks) + u64::from(self.remainder)
     }
+}
+
+/// What lies between two vertices.
+#[derive(Clone, Debug, PartialEq, Eq)]
+pub struct Separator {
+    /// The vertices that stand above both, by rising rank. Every chain of edges from one to the other passes one of them.
+    pub vertices: Vec<u32>,
+    /// The lowest of them, or `None` if there are none: then there is no chain.
+    pub lowest: Option<u32>,
 }
 
 impl Division {

@@ -74,6 +74,21 @@ mod library {
             quotient: *mut u32,
             remainder: *mut u32,
         ) -> u32;
+        pub fn niqastul_separate(
+            parents: *const u32, parents_length: usize,
+            weights: *const u32, weights_length: usize,
+            one: u32,
+            other: u32,
+            edges: *const u32, edges_length: usize,
+            separator: *mut u32, separator_length: usize,
+            compared_parents: *mut u32, compared_parents_length: usize,
+            compared_weights: *mut u32, compared_weights_length: usize,
+            ends: *mut u32, ends_length: usize,
+            jump: *mut u32, jump_length: usize,
+            lower: *mut u32, lower_length: usize,
+            count: *mut u32,
+            lowest: *mut u32,
+        ) -> u32;
         pub fn niqastul_index(
             old_edges: *const u32, old_edges_length: usize,
             added: *const u32, added_length: usize,
@@ -94,15 +109,15 @@ fn answer(number: u32) -> Result<(), Refusal> {
     if number == 0 {
         return Ok(());
     }
-    Err(*Refusal::ALL.iter().find(|refusal| refusal.number() == number).expect("a refusal of document 01"))
+    Err(*Refusal::ALL.iter().find(|refusal| refusal.number() == number).expect("a refusal of the documents"))
 }
 
-/// What the cell of an accepted [`add`] or [`join`] tells: where the forest moved.
-fn rank(moved: u32) -> Option<u32> {
-    (moved != ABSENT).then_some(moved)
+/// What a cell tells that holds a rank, or [`ABSENT`] for none.
+fn rank(told: u32) -> Option<u32> {
+    (told != ABSENT).then_some(told)
 }
 
-/// Work tables of [`add`], [`join`] and [`report`].
+/// Work tables of [`add`], [`join`], [`report`] and [`separate`].
 #[derive(Clone, Debug, Default)]
 pub struct Work {
     pub ends: Vec<u32>,
@@ -111,7 +126,7 @@ pub struct Work {
 }
 
 impl Work {
-    /// Room for a net of so many vertices, and so many edges to add or report on, or vertices of a net to join.
+    /// Room for a net of so many vertices, and so many edges to add or compare with it, or vertices of a net to join.
     pub fn resize(&mut self, vertices: usize, more: usize) {
         self.ends.resize(vertices, 0);
         self.jump.resize(vertices, 0);
@@ -275,6 +290,41 @@ pub fn report(
         )
     })?;
     Ok((bound, volume, Share { quotient, remainder, blocks }))
+}
+
+/// Writes the vertices that stand above both of two ranks to the front of `separator`, lowest first, given the net's own edges; answers
+/// how many there are and the lowest of them, `None` if there are none. Refused with [`Refusal::OtherEdges`] or [`Refusal::Related`], it
+/// leaves the net of the edges in the compared tables.
+pub fn separate(
+    parents: &[u32],
+    weights: &[u32],
+    one: u32,
+    other: u32,
+    edges: &[u32],
+    separator: &mut [u32],
+    compared_parents: &mut [u32],
+    compared_weights: &mut [u32],
+    work: &mut Work,
+) -> Result<(u32, Option<u32>), Refusal> {
+    let (mut count, mut lowest) = (0, ABSENT);
+    answer(unsafe {
+        library::niqastul_separate(
+            parents.as_ptr(), parents.len(),
+            weights.as_ptr(), weights.len(),
+            one,
+            other,
+            edges.as_ptr(), edges.len(),
+            separator.as_mut_ptr(), separator.len(),
+            compared_parents.as_mut_ptr(), compared_parents.len(),
+            compared_weights.as_mut_ptr(), compared_weights.len(),
+            work.ends.as_mut_ptr(), work.ends.len(),
+            work.jump.as_mut_ptr(), work.jump.len(),
+            work.lower.as_mut_ptr(), work.lower.len(),
+            &mut count,
+            &mut lowest,
+        )
+    })?;
+    Ok((count, rank(lowest)))
 }
 
 /// Writes the index of an old list of edges followed by an added one, whatever its tables held.

@@ -30,7 +30,7 @@ use Rattle.compare.proofs.Refused.{list-passes}
 use Rattle.writing.specs.Written.{Written, figures}
 use Rattle.early.specs.Early.{earlyRefusal}
 use Rattle.report.specs.Report.{Lent, wrongFigures, wrongLent, reportRefusal, reportOutcome}
-use Rattle.report.proofs.Own.{same-passes}
+use Rattle.compare.proofs.Sameness.{same-passes}
 use Rattle.printing.specs.Lines.{rankText, linesBelow, totalsText}
 use Rattle.printing.specs.Steps.{Columns, answerText, lineRoom, totalsRoom}
 use Rattle.files.specs.Files.{edgeCapacity}

@@ -2,3 +2,4 @@
 pub mod Sameness
 pub mod Compared
 pub mod Refused
+pub mod Ready

@@ -76,7 +76,12 @@ fn grow_net(
 }
 
 // Whether two nets of one size are the same.
-fn same_net(parents: &[u32], weights: &[u32], other_parents: &[u32], other_weights: &[u32]) -> bool
+pub fn same_net(
+    parents: &[u32],
+    weights: &[u32],
+    other_parents: &[u32],
+    other_weights: &[u32],
+) -> bool
     requires { ⌜ (length (now parents) ≡ length (now «other_parents»)) × (length (now weights) ≡ length (now «other_weights»)) ⌝ }
     ensures { λ r. ⌜ r ≡ sameNet (net (now (parents .entry)) (now (weights .entry))) (net (now («other_parents» .entry)) (now («other_weights» .entry))) ⌝ }
 {

@@ -13,8 +13,7 @@ use lib.ListN.{getD}
 use borrow.Author.Tests.{eq-eqb, eqb-true}
 use Rattle.game.specs.Edge.{Edge, _─_, lower}
 use Rattle.game.specs.Graph.{Linked, forth, back}
-use Rattle.game.proofs.Bools.{or-cases, or-left, or-right}
-use Rattle.trimming.proofs.Lists.{test-cases}
+use Rattle.game.proofs.Bools.{or-cases, or-left, or-right, test-cases}
 use Rattle.cost.specs.Figures.{edgeBlock, edgeBlocks, touches, blocksAt}
 use Rattle.game.specs.Table.{filtered}
 

@@ -18,7 +18,8 @@ use Rattle.game.proofs.Tables.{tabulate-ext}
 use Rattle.game.proofs.Weights.{sum-map-append}
 use Rattle.game.proofs.Within.{within-linked}
 use Rattle.game.proofs.Forest.{forest-same}
-use Rattle.trimming.proofs.Lists.{test-cases, stretch, in-stretch, sum-nought, sum-agree}
+use Rattle.game.proofs.Bools.{test-cases}
+use Rattle.trimming.proofs.Lists.{stretch, in-stretch, sum-nought, sum-agree}
 use Rattle.groups.proofs.Sums.{only, total, total-add, total-here}
 use Rattle.cost.proofs.Blocks.{filtered-in, in-filtered}
 

@@ -23,7 +23,7 @@ use Rattle.game.specs.Game.{absent, forest}
 use Rattle.game.specs.Tree.{ancestors, under}
 use Rattle.game.specs.Net.{Net, netOf, enters, reach}
 use Rattle.game.specs.Graph.{Linked, Proper}
-use Rattle.game.proofs.Bools.{or-left, or-right, both-and}
+use Rattle.game.proofs.Bools.{or-left, or-right, both-and, test-cases}
 use Rattle.game.proofs.Tables.{member-in, in-member, tabulate-entry}
 use Rattle.game.proofs.Sound.{Sound}
 use Rattle.game.proofs.Links.{link-inv}
@@ -31,7 +31,7 @@ use Rattle.game.proofs.Forest.{forest-length, forest-sound}
 use Rattle.game.proofs.Ancestors.{ancestor-above, edge-ends}
 use Rattle.refusal.specs.Limits.{maxVertices}
 use Rattle.trimming.specs.Cut.{top}
-use Rattle.trimming.proofs.Lists.{test-cases, stretch, stretch-in, in-stretch, sum-entry-in, sum-nought}
+use Rattle.trimming.proofs.Lists.{stretch, stretch-in, in-stretch, sum-entry-in, sum-nought}
 use Rattle.groups.proofs.Sums.{only, total, total-add, total-swap}
 use Rattle.groups.proofs.Groups.{top-or, top-cut, top-of, top-between}
 use Rattle.reach.proofs.Higher.{linked-enters}

@@ -4,6 +4,7 @@
 // that is written overlaps no other.
 use handing::hand_place;
 use handing::hand_rank;
+use handing::hand_separator;
 use handing::hand_totals;
 ghost use mathlib.Core.Path.{_≡_};
 ghost use Rattle.game.specs.Net.{net};
@@ -20,7 +21,8 @@ ghost use Rattle.indexing.specs.Build.{indexOutcome};
 ghost use Rattle.querying.specs.Query.{place, queryPlace};
 ghost use Rattle.writing.specs.Written.{written};
 ghost use Rattle.report.specs.Report.{lent, reportOutcome};
-ghost use Rattle.handing.specs.Returned.{returned, handed, filled, cells, handedTotals, handedRank};
+ghost use Rattle.separating.specs.Separate.{separateTables, separateOutcome};
+ghost use Rattle.handing.specs.Returned.{returned, handed, filled, cells, separatorCells, handedTotals, handedRank, handedSeparator};
 
 #[no_mangle]
 pub extern "C" fn niqastul_relabel(
@@ -223,4 +225,45 @@ pub extern "C" fn niqastul_query(
 {
     let part = querying::locate(starts, neighbours, rank);
     hand_place(part, first, count)
+}
+
+// How many vertices are above both, and the lowest of them, go into the two cells, absent for none; a refused call leaves the cells as they
+// were.
+#[no_mangle]
+pub extern "C" fn niqastul_separate(
+    parents: &[u32],
+    weights: &[u32],
+    one: u32,
+    other: u32,
+    edges: &[u32],
+    separator: &mut [u32],
+    compared_parents: &mut [u32],
+    compared_weights: &mut [u32],
+    ends: &mut [u32],
+    jump: &mut [u32],
+    lower: &mut [u32],
+    count: &mut u32,
+    lowest: &mut u32,
+) -> u32
+    ensures { λ r. ⌜
+        filled r (separatorCells (now (count .exit)) (now (lowest .exit)))
+        (separateTables (now (separator .exit)) (net (now («compared_parents» .exit)) (now («compared_weights» .exit))) (workOf (now (ends .exit)) (now (jump .exit)) (now (lower .exit))))
+        ≡ handedSeparator (separatorCells (now (count .entry)) (now (lowest .entry)))
+        (separateOutcome (net (now (parents .entry)) (now (weights .entry))) one other (now (edges .entry))
+        (separateTables (now (separator .entry)) (net (now («compared_parents» .entry)) (now («compared_weights» .entry))) (workOf (now (ends .entry)) (now (jump .entry)) (now (lower .entry))))) ⌝ }
+{
+    let answer = separating::separate(
+        parents,
+        weights,
+        one,
+        other,
+        edges,
+        separator,
+        compared_parents,
+        compared_weights,
+        ends,
+        jump,
+        lower,
+    );
+    hand_separator(answer, count, lowest)
 }

@@ -1,6 +1,7 @@
-// Divisions and reports by the real calls: document 01's reaches and whole case, and refusals in combination. The cases are the lines of
-// the file `stdin`, which says how they are written: a call, a name, and the tables lent. Below each the program writes the answer and the
-// tables left.
+// Divisions, reports and separators by the real calls: document 01's reaches and whole case, and refusals in combination. The cases are the
+// lines of the file `stdin`, which says how they are written: a call, a name, and the tables lent. Below each the program writes the answer
+// and the tables left.
+mod between;
 mod calls;
 
 // Makes the call that the first three letters of a case name.
@@ -9,6 +10,7 @@ fn make(word: u32) {
         1 => {}
         0x64_6976 => calls::divide(),
         0x72_6570 => calls::report(),
+        0x73_6570 => between::separate(),
         _ => script::skip(b'\n'),
     }
 }

@@ -72,6 +72,14 @@ pub above-ancestor : {p : List ℕ} → Sound p → {x y : ℕ} → Above p x y 
 unfolding ancestors
 above-ancestor {p} s a = above-climb s (length p) (omega arith) a
 
+-- who is reached by climbing is an ancestor
+pub climbs-ancestor : {p : List ℕ} → Sound p → {x y : ℕ} → Climbs p y x → x ≢ y → List·Memᴰ y (ancestors p x)
+climbs-ancestor s k d = ⊎-elim (λ e. absurd (d e)) (above-ancestor s) (climbs-cases k)
+
+-- an ancestor is reached by climbing
+pub ancestor-climbs : {p : List ℕ} → length p ≤ absent → {x y : ℕ} → List·Memᴰ y (ancestors p x) → Climbs p y x
+ancestor-climbs u m = let a = ancestor-above u m in up (a .link) (a .rest)
+
 -- what is above is higher and joined at its own height
 pub above-conn : {p : List ℕ} → Sound p → {x y : ℕ} → Above p x y → (x < y) × Conn (links p) y x y
 above-conn s a = (lt-of-lt-of-le (link-up s (a .link) .0) (climbs-le s (a .rest)), climbs-conn s (up (a .link) (a .rest)))
@@ -98,7 +106,7 @@ module _ {n : ℕ} {g : List Edge} (u : n ≤ absent) (p : Proper n g) where
 pub under-climbs : {p : List ℕ} → length p ≤ absent → {x u : ℕ} → under p x u ≡ true → Climbs p x u
 unfolding under
 under-climbs {p} n {x} {u} e =
-    ⊎-elim (λ t. rw (eqb-true u x t) top) (λ m. let a = ancestor-above n (member-in x (ancestors p u) m) in up (a .link) (a .rest))
+    ⊎-elim (λ t. rw (eqb-true u x t) top) (λ m. ancestor-climbs n (member-in x (ancestors p u) m))
     (or-cases (eqb u x) (member x (ancestors p u)) e)
 
 -- who climbs to x passes the test of standing under x

@@ -1,6 +1,6 @@
--- Tests that are joined by "and" and "or", taken apart and put together.
+-- Tests: their values; and those that are joined by "and" and "or", taken apart and put together.
 -- Assumes nothing.
-use mathlib.Core.Path.{_≡_, refl}
+use mathlib.Core.Path.{_≡_, refl, sym}
 use mathlib.Core.Logic.{_⊎_, inl, inr}
 use mathlib.Core.Bool.{Bool, true, false, _&&_, _||_, false≢true, true≢false, or-true}
 
@@ -30,3 +30,19 @@ or-neither false b e = (refl, e)
 
 pub neither-or : (a b : Bool) → a ≡ false → b ≡ false → (a || b) ≡ false
 neither-or a b p q = rw (p, q)
+
+-- a test passes or not
+pub test-cases : {A : Type 0} (b : Bool) → (b ≡ true → A) → (b ≡ false → A) → A
+test-cases true f g = f refl
+test-cases false f g = g refl
+
+-- two tests that pass together have one value
+pub bool-iff : (a b : Bool) → (a ≡ true → b ≡ true) → (b ≡ true → a ≡ true) → a ≡ b
+bool-iff true b f g = sym (f refl)
+bool-iff false true f g = g refl
+bool-iff false false f g = refl
+
+-- a test that does not pass
+pub bool-false : (a : Bool) → (a ≡ true → ⊥) → a ≡ false
+bool-false true f = absurd (f refl)
+bool-false false f = refl

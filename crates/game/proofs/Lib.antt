@@ -4,6 +4,7 @@ pub mod Edges
 pub mod Bools
 pub mod Proper
 pub mod Tables
+pub mod Lists
 pub mod Sound
 pub mod Links
 pub mod Filled
@@ -12,5 +13,7 @@ pub mod Climbs
 pub mod Within
 pub mod Forest
 pub mod Ancestors
+pub mod Subtree
+pub mod Paths
 pub mod Weights
 pub mod Order

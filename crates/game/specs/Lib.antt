@@ -6,3 +6,4 @@ pub mod Game
 pub mod Tree
 pub mod Net
 pub mod Paper
+pub mod Case

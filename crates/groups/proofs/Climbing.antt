@@ -13,11 +13,12 @@ use Rattle.game.specs.Table.{tabulate}
 use Rattle.game.specs.Game.{absent}
 use Rattle.game.proofs.Sound.{Sound}
 use Rattle.game.proofs.Tables.{tabulate-unique}
+use Rattle.game.proofs.Bools.{test-cases}
+use Rattle.game.proofs.Paths.{parent-higher}
 use Rattle.trimming.specs.Cut.{top}
 use Rattle.trimming.specs.Steps.{Hanging, Tops, holder}
-use Rattle.trimming.proofs.Lists.{test-cases}
 use Rattle.groups.proofs.Ranks.{holder-up, holder-cut, holder-root}
-use Rattle.groups.proofs.Groups.{parent-higher, top-root, top-cut, top-up}
+use Rattle.groups.proofs.Groups.{top-root, top-cut, top-up}
 
 -- the ranks from x on have climbed
 pub record Climbing (was link : List ℕ) (x : ℕ) : Type 0 where

@@ -9,14 +9,16 @@ use Prim.Native.Nat.{ℕ, zero, suc, _+_, _≤_, _<_}
 use native.Mathlib.Decide.{decLt, ℕ-discrete}
 use native.Mathlib.Omega.{arith}
 use lib.Dec.{eqb}
-use lib.ListN.{length, getD, List·getD-eq-default}
-use borrow.Author.Tests.{lt-ltb, le-ltb, eq-eqb, ne-eqb}
+use lib.ListN.{length, getD}
+use borrow.Author.Tests.{eq-eqb, ne-eqb}
 use Rattle.game.specs.Table.{sum}
 use Rattle.game.specs.Game.{absent}
-use Rattle.game.specs.Tree.{climb, ancestors}
+use Rattle.game.specs.Tree.{ancestors}
 use Rattle.game.proofs.Sound.{Sound}
+use Rattle.game.proofs.Bools.{test-cases}
+use Rattle.game.proofs.Paths.{parent-higher, ancestors-up, ancestors-none}
 use Rattle.trimming.specs.Cut.{children, carries, climbTo, top, isTop, groupWeight}
-use Rattle.trimming.proofs.Lists.{test-cases, stretch, stretch-in, sum-agree, sum-nought}
+use Rattle.trimming.proofs.Lists.{stretch, stretch-in, sum-agree, sum-nought}
 use Rattle.groups.proofs.Sums.{only, total, total-add, total-filtered, total-swap, total-here, total-elsewhere, total-table}
 use Rattle.trimming.proofs.Carried.{entry, Carrying, uncutUnder}
 
@@ -39,55 +41,15 @@ top-cut p cuts x e = go (ancestors p x)
     go (y ∷ ys) = rw e
 
 module _ {p : List ℕ} (s : Sound p) (u : length p ≤ absent) where
-  -- a parent that is of the table is higher
-  pub parent-higher : (x : ℕ) → getD p x absent < length p → (x < getD p x absent) × (x < length p)
-  parent-higher x h =
-      by-cases (decLt x (length p))
-      (λ l. ⊎-elim (λ (e : getD p x absent ≡ absent). absurd (omega arith)) (λ (b : (x < getD p x absent) × (getD p x absent < length p)). (b .0, l)) (s .each x l))
-      (λ (o : x < length p → ⊥). absurd (omega (arith, List·getD-eq-default p absent {n = x} (omega arith))))
-
-  climb-up : (k x : ℕ) → getD p x absent < length p → climb (suc k) p x ≡ getD p x absent ∷ climb k p (getD p x absent)
-  unfolding climb
-  climb-up k x h = rw (lt-ltb (getD p x absent) (length p) h)
-
-  climb-end : (k x : ℕ) → (getD p x absent < length p → ⊥) → climb k p x ≡ []
-  unfolding climb
-  climb-end zero x h = refl
-  climb-end (suc k) x h = rw (le-ltb (getD p x absent) (length p) (omega arith))
-
-  -- one step more meets nothing more, once there are enough
-  climb-enough : (k x : ℕ) → length p ≤ x + k → climb (suc k) p x ≡ climb k p x
-  climb-enough zero x h =
-      climb-end 1 x (λ (l : getD p x absent < length p). omega (arith, parent-higher x l)) ∙ sym (climb-end 0 x (λ (l : getD p x absent < length p). omega (arith, parent-higher x l)))
-  climb-enough (suc k) x h =
-      by-cases (decLt (getD p x absent) (length p))
-      (λ l. climb-up (suc k) x l ∙ ap (λ (ys : List ℕ). getD p x absent ∷ ys) (climb-enough k (getD p x absent) (omega (arith, parent-higher x l))) ∙ sym (climb-up k x l))
-      (λ o. climb-end (suc (suc k)) x o ∙ sym (climb-end (suc k) x o))
-
-  pub ancestors-up : (x : ℕ) → getD p x absent < length p → ancestors p x ≡ getD p x absent ∷ ancestors p (getD p x absent)
-  unfolding ancestors
-  ancestors-up x h = go (length p) refl
-    where
-      q : ℕ
-      q = getD p x absent
-
-      go : (n : ℕ) → length p ≡ n → climb n p x ≡ q ∷ climb n p q
-      go zero e = absurd (omega (arith, h))
-      go (suc n) e = climb-up n x h ∙ ap (λ (ys : List ℕ). q ∷ ys) (sym (climb-enough n q (omega (arith, parent-higher x h))))
-
-  pub ancestors-root : (x : ℕ) → (getD p x absent < length p → ⊥) → ancestors p x ≡ []
-  unfolding ancestors
-  ancestors-root x h = climb-end (length p) x h
-
   -- a vertex without a parent is the top of its group
   pub top-root : (cuts : ℕ → Bool) (x : ℕ) → (getD p x absent < length p → ⊥) → top p cuts x ≡ x
   unfolding top
-  top-root cuts x h = rw (ancestors-root x h)
+  top-root cuts x h = rw (ancestors-none s u x (omega arith))
 
   -- an uncut link joins two of one group
   pub top-up : (cuts : ℕ → Bool) (x : ℕ) → getD p x absent < length p → cuts x ≡ false → top p cuts x ≡ top p cuts (getD p x absent)
   unfolding top
-  top-up cuts x h e = rw (ancestors-up x h, e)
+  top-up cuts x h e = rw (ancestors-up s u x h, e)
 
 -- x hangs on nothing: it has no parent, or is cut
 abbrev pub Loose : List ℕ → (ℕ → Bool) → ℕ → Type 0
@@ -192,7 +154,7 @@ module _ {p : List ℕ} (s : Sound p) (u : length p ≤ absent) (cuts : ℕ → 
       (List·Memᴰ·cases-cons (rw (ancestors-up s u x g) at m))))
     where
       stays : Loose p cuts x → (cuts x ≡ true) × List·Memᴰ y (ancestors p x)
-      stays (inl g) = absurd (List·Memᴰ·not-nil (rw (ancestors-root s u x g) at m))
+      stays (inl g) = absurd (List·Memᴰ·not-nil (rw (ancestors-none s u x (omega arith)) at m))
       stays (inr e) = (e, m)
 
   -- an ancestor of x that is of another group stands above the top of x, and the top is cut

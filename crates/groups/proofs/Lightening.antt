@@ -12,8 +12,9 @@ use Rattle.game.specs.Game.{absent}
 use Rattle.refusal.specs.Limits.{maxTotal}
 use Rattle.trimming.specs.Cut.{carries}
 use Rattle.game.specs.Table.{filtered}
+use Rattle.game.proofs.Lists.{filtered-in, in-filtered, rising-filtered}
 use Rattle.trimming.specs.Steps.{Chain, end, node, hanging, classOf, leastOf, floorOf, Loaded, Candidates, Due, Trimmed, Listed, Children, classIn, InClasses, Lightened}
-use Rattle.trimming.proofs.Lists.{filtered-in, in-filtered, rising-filtered, sum-nought, sum-within, sum-entry-in}
+use Rattle.trimming.proofs.Lists.{sum-nought, sum-within, sum-entry-in}
 use Rattle.trimming.proofs.Trimming.{trim-done}
 use Rattle.trimming.proofs.Carried.{entry, below-in, below-rising}
 use Rattle.trimming.proofs.Chains.{chain-same, chain-none, falling-under}

@@ -13,7 +13,9 @@ use lib.Dec.{eqb}
 use lib.ListN.{length, getD}
 use borrow.Author.Tests.{eq-eqb, ne-eqb}
 use Rattle.game.specs.Table.{tabulateFrom, sum, filtered}
-use Rattle.trimming.proofs.Lists.{test-cases, filtered-take, filtered-leave, stretch, stretch-in, sum-nought}
+use Rattle.game.proofs.Bools.{test-cases}
+use Rattle.game.proofs.Lists.{filtered-take, filtered-leave}
+use Rattle.trimming.proofs.Lists.{stretch, stretch-in, sum-nought}
 
 -- v if the test holds, else 0
 abbrev pub only : Bool → ℕ → ℕ

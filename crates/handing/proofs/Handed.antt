@@ -1,6 +1,6 @@
 -- A verdict handed over, case by case.
 -- Assumes nothing.
-use mathlib.Core.Path.{_≡_, refl}
+use mathlib.Core.Path.{_≡_, refl, ap}
 use Prim.Native.Nat.{ℕ}
 use Rattle.refusal.specs.Verdict.{number}
 use Rattle.moving.specs.declared.Moved.{Moved}
@@ -12,7 +12,11 @@ use Rattle.cost.specs.declared.Totals.{Totals}
 use Rattle.report.specs.declared.ReportAnswer.{ReportAnswer}
 use Rattle.report.specs.declared.ReportAnswer.the-variants as report
 use Rattle.report.specs.Answer.{verdict as reportVerdict}
-use Rattle.handing.specs.Returned.{told, TotalsCells, cells, cellsOf}
+use Rattle.ancestry.specs.declared.Separator.{Separator}
+use Rattle.ancestry.specs.declared.SeparatorAnswer.{SeparatorAnswer}
+use Rattle.ancestry.specs.declared.SeparatorAnswer.the-variants as separator
+use Rattle.ancestry.specs.Answer.{lowestRank, verdict as separatorVerdict}
+use Rattle.handing.specs.Returned.{told, TotalsCells, cells, cellsOf, SeparatorCells, separatorCells, separatorCellsOf}
 
 -- where a forest moved
 module _ (was : ℕ) {answer : GrowthAnswer} where
@@ -34,3 +38,14 @@ module _ (was : TotalsCells) {answer : ReportAnswer} where
   pub totals-refused : {k : ℕ} → answer ≡ report.Refused k → (k ≡ number (reportVerdict answer)) × (was ≡ told cellsOf (reportVerdict answer) was)
   unfolding reportVerdict number told
   totals-refused e = rw e (refl, refl)
+
+-- what lies between two vertices
+module _ (was : SeparatorCells) {answer : SeparatorAnswer} where
+  pub separator-accepted : {its : Separator} {k : ℕ} → answer ≡ separator.Accepted its → k ≡ lowestRank (its .lowest)
+      → (0 ≡ number (separatorVerdict answer)) × (separatorCells (its .count) k ≡ told separatorCellsOf (separatorVerdict answer) was)
+  unfolding separatorVerdict number told separatorCellsOf
+  separator-accepted {its} e f = rw e (refl, ap (separatorCells (its .count)) f)
+
+  pub separator-refused : {k : ℕ} → answer ≡ separator.Refused k → (k ≡ number (separatorVerdict answer)) × (was ≡ told separatorCellsOf (separatorVerdict answer) was)
+  unfolding separatorVerdict number told
+  separator-refused e = rw e (refl, refl)

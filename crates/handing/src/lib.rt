@@ -1,5 +1,6 @@
 // A call's answer as C takes it: the number, 0 if it was accepted, is answered, and the values go to cells, which a refusal leaves as they
 // were.
+use ancestry::SeparatorAnswer;
 use moving::GrowthAnswer;
 use querying::Place;
 use report::ReportAnswer;
@@ -9,7 +10,8 @@ ghost use Rattle.moving.specs.Moved.{rankOf};
 ghost use Rattle.moving.specs.Answer.{verdict as growthVerdict};
 ghost use Rattle.report.specs.Answer.{verdict as reportVerdict};
 ghost use Rattle.querying.specs.Query.{place};
-ghost use Rattle.handing.specs.Returned.{told, cells, cellsOf};
+ghost use Rattle.ancestry.specs.Answer.{verdict as separatorVerdict};
+ghost use Rattle.handing.specs.Returned.{told, cells, cellsOf, separatorCells, separatorCellsOf};
 
 // Hands over where a forest moved, as a rank.
 pub fn hand_rank(answer: GrowthAnswer, moved: &mut u32) -> u32
@@ -57,4 +59,21 @@ pub fn hand_place(part: Place, first: &mut u64, count: &mut u64) -> u32
     *first = table::amount(part.first);
     *count = table::amount(part.count);
     part.number
+}
+
+// Hands over what lies between two vertices: how many vertices that is, and the lowest, as a rank.
+pub fn hand_separator(answer: SeparatorAnswer, count: &mut u32, lowest: &mut u32) -> u32
+    ensures { λ r. ⌜
+        (r ≡ number (separatorVerdict answer))
+        × (separatorCells (now (count .exit)) (now (lowest .exit)) ≡ told separatorCellsOf (separatorVerdict answer) (separatorCells (now (count .entry)) (now (lowest .entry)))) ⌝ }
+{
+    match answer {
+        SeparatorAnswer::Accepted(its) => {
+            let vertex = its.lowest;
+            *count = its.count;
+            *lowest = ancestry::rank(vertex);
+            0
+        }
+        SeparatorAnswer::Refused(number) => number,
+    }
 }

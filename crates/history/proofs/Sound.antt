@@ -13,7 +13,8 @@ use Rattle.forest.proofs.Promise.{start-valid, add-valid, join-valid, add-not-3
 use Rattle.linkfile.proofs.RoundTrip.{read-valid, save-not-30}
 use Rattle.partition.proofs.Division.{divide-not-30}
 use Rattle.report.proofs.Own.{report-not-30}
-use Rattle.history.specs.World.{World, Call, start, add, join, save, read, relabel, divide, report, index, query, update, step, stepped}
+use Rattle.separating.proofs.Own.{separate-not-30}
+use Rattle.history.specs.World.{World, Call, start, add, join, save, read, relabel, divide, report, index, query, separate, update, step, stepped}
 use Rattle.history.specs.Sound.{written, Never30}
 use Rattle.history.proofs.Update.{update-here}
 
@@ -26,6 +27,7 @@ valid-never-30 {of} v = record {
   save = λ bytes. save-not-30 of bytes v;
   divide = λ B k tables. divide-not-30 of B k tables v;
   report = λ B k xs tables. report-not-30 of B k xs tables v;
+  separate = λ a b xs tables. separate-not-30 of a b xs tables v;
 }
 
 -- a verdict that is accepted
@@ -53,6 +55,7 @@ written-valid w (divide i B k tables) j e a = absurd (nothing e)
 written-valid w (report i B k xs tables) j e a = absurd (nothing e)
 written-valid w (index old more tables) j e a = absurd (nothing e)
 written-valid w (query tables rank) j e a = absurd (nothing e)
+written-valid w (separate i x y xs tables) j e a = absurd (nothing e)
 
 pub accepted-never-30 : (w : World) (c : Call) (i : ℕ) → written c ≡ some i → step w c .accepted ≡ true → Never30 (step w c .world .nets i)
 accepted-never-30 w c i e a = valid-never-30 (written-valid w c i e a)

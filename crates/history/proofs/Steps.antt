@@ -43,7 +43,8 @@ use Rattle.indexing.specs.Build.{indexOutcome}
 use Rattle.querying.specs.Query.{queryOutcome}
 use Rattle.partition.specs.Divide.{divideOutcome}
 use Rattle.report.specs.Report.{reportOutcome}
-use Rattle.history.specs.World.{World, Call, start, add, join, save, read, relabel, divide, report, index, query, update, withNet, withFile, step, stepped}
+use Rattle.separating.specs.Separate.{separateOutcome}
+use Rattle.history.specs.World.{World, Call, start, add, join, save, read, relabel, divide, report, index, query, separate, update, withNet, withFile, step, stepped}
 use Rattle.history.specs.Book.{NetRecord, FileRecord, Book, Entry, entry, enter, note, behind, savedRecord, loadedRecord, started, added, joined as entered, saved, loaded, passed}
 use Rattle.history.proofs.Update.{update-both, update-same}
 
@@ -238,3 +239,4 @@ step-keeps {w} {b} (divide i B k tables) v = subst (Kept w) (sym (note-passed b 
 step-keeps {w} {b} (report i B k xs tables) v = subst (Kept w) (sym (note-passed b (isAccepted (reportOutcome (w .nets i) B k xs tables .verdict)))) v
 step-keeps {w} {b} (index old more tables) v = subst (Kept w) (sym (note-passed b (isAccepted (indexOutcome tables old more .verdict)))) v
 step-keeps {w} {b} (query tables rank) v = subst (Kept w) (sym (note-passed b (eqb (queryOutcome tables rank .cell) 0))) v
+step-keeps {w} {b} (separate i x y xs tables) v = subst (Kept w) (sym (note-passed b (isAccepted (separateOutcome (w .nets i) x y xs tables .verdict)))) v

@@ -9,11 +9,14 @@ use Rattle.game.specs.Net.{Net, netOf}
 use Rattle.game.proofs.Order.{net-order}
 use Rattle.linkfile.proofs.RoundTrip.{link-file-length}
 use Rattle.report.specs.Report.{Lent, reportOutcome}
+use Rattle.separating.specs.Separate.{SeparateTables, separateOutcome}
 use Rattle.cost.proofs.VolumeBound.{volume-bound}
 use Rattle.report.proofs.Own.{own-not-23, accepted-totals}
+use Rattle.separating.proofs.Own.{own-not-23 as separate-not-23}
+use Rattle.separating.proofs.Separation.{separate-separates}
 use Rattle.history.specs.World.{World, Call}
 use Rattle.history.specs.Book.{Book, blank}
-use Rattle.history.specs.History.{worldAfter, bookAfter, Reports, NetHolds, FileHolds, Holds}
+use Rattle.history.specs.History.{worldAfter, bookAfter, Reports, Separated, NetHolds, FileHolds, Holds}
 use Rattle.history.proofs.Steps.{NetOf, FileOf, Kept, net-unrecorded, file-unrecorded, net-lengths, parents-length, step-keeps}
 
 -- a report that is lent the list of a net
@@ -25,6 +28,15 @@ reports net ts B k xs tables is e =
       answers = accepted-totals net B k xs tables;
     })
 
+-- two vertices separated by a call that is lent the list of a net
+separated : (net : Net) (ts : List Edge) (a b : ℕ) (xs : List ℕ) (tables : SeparateTables) → net ≡ netOf (length (net .parents)) ts → edges xs ≡ ts → Separated net ts a b (separateOutcome net a b xs tables)
+separated net ts a b xs tables is e =
+    subst (λ (us : List Edge). Separated net us a b (separateOutcome net a b xs tables)) e
+    (record {
+      never-23 = separate-not-23 net a b xs tables (is ∙ ap (netOf (length (net .parents))) (sym e));
+      separates = separate-separates net a b xs tables;
+    })
+
 -- what is kept is what is claimed
 net-holds : {net : Net} {ts : List Edge} → NetOf net ts → NetHolds net ts
 net-holds {net} {ts} g = record {
@@ -32,6 +44,7 @@ net-holds {net} {ts} g = record {
   any-order = λ us s. of us (g .is ∙ net-order (g .vertices) s);
   volume-bound = volume-bound net (g .count .few) (g .proper) (g .is);
   reports = λ B k xs tables e. reports net ts B k xs tables (of ts (g .is)) e;
+  separates = λ a b xs tables e. separated net ts a b xs tables (of ts (g .is)) e;
 }
   where
     of : (us : List Edge) → net ≡ netOf (g .vertices) us → net ≡ netOf (length (net .parents)) us

@@ -18,7 +18,7 @@ use Rattle.joinable.specs.Refused.{joinRefusal}
 use Rattle.joining.specs.Join.{joinOutcome}
 use Rattle.reading.specs.Read.{readRefusal, readOutcome}
 use Rattle.forest.proofs.Followed.{add-followed, join-followed}
-use Rattle.history.specs.World.{World, Call, start, add, join, save, read, relabel, divide, report, index, query, update, step, stepped}
+use Rattle.history.specs.World.{World, Call, start, add, join, save, read, relabel, divide, report, index, query, separate, update, step, stepped}
 use Rattle.history.specs.History.{worldAfter}
 use Rattle.history.specs.Viewer.{shown, look, seenAfter}
 use Rattle.history.proofs.Update.{update-here, update-both}
@@ -64,6 +64,7 @@ module _ (w : World) (seen : ℕ → List ℕ) (sees : (i : ℕ) → seen i ≡ 
   look-sees (report i B k xs tables) = sees
   look-sees (index old more tables) = sees
   look-sees (query tables rank) = sees
+  look-sees (separate i a b xs tables) = sees
 
 pub viewer : (w : World) (seen : ℕ → List ℕ) → ((i : ℕ) → seen i ≡ w .nets i .parents) → (cs : List Call) (i : ℕ) → seenAfter w seen cs i ≡ worldAfter w cs .nets i .parents
 unfolding seenAfter worldAfter

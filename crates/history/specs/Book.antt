@@ -9,7 +9,7 @@ use mathlib.Core.List.{List, [], _++_}
 use mathlib.Core.Option.{Option, none, some}
 use Prim.Native.Nat.{ℕ}
 use Rattle.game.specs.Edge.{Edge, edges}
-use Rattle.history.specs.World.{Call, start, add, join, save, read, relabel, divide, report, index, query, update}
+use Rattle.history.specs.World.{Call, start, add, join, save, read, relabel, divide, report, index, query, separate, update}
 
 -- what is kept of a net with a list: its edges
 pub record NetRecord : Type 0 where
@@ -44,6 +44,7 @@ entry (divide i B k tables) = passed
 entry (report i B k xs tables) = passed
 entry (index old more tables) = passed
 entry (query tables rank) = passed
+entry (separate i a b xs tables) = passed
 
 -- a list behind a list; none, if either is none
 unfoldable pub behind : Option NetRecord → Option NetRecord → Option NetRecord

@@ -4,20 +4,26 @@
 -- each file with a list holds the link file of the net of its own list. For every B and k that Divide accepts on a net with a list, the
 -- volume, taken with that list, is at most the bound. Report lent that list is never refused with 23 and, where accepted, answers this
 -- volume and this bound."
+-- Document 02, Paper 5: "a call given the net's own ties .. treats them .. as Report does. Every chain of ties from one to the other passes a
+-- mark of the list."
 -- Assumes nothing.
 use mathlib.Core.Path.{_≡_}
 use mathlib.Core.List.{List, [], _∷_}
 use mathlib.Core.Option.{some}
 use Prim.Native.Nat.{ℕ, _*_, _≤_}
-use lib.ListN.{length}
+use lib.ListN.{length, take}
 use Rattle.game.specs.Edge.{Edge, edges}
 use Rattle.game.specs.Net.{Net, netOf}
 use Rattle.game.specs.Graph.{Same}
 use Rattle.refusal.specs.Verdict.{Verdict, accepted, refused}
+use Rattle.refusal.specs.Outcome.{Outcome}
 use Rattle.records.specs.LinkFile.{linkFile}
 use Rattle.cost.specs.declared.Totals.{Totals}
 use Rattle.cost.specs.Figures.{boundOf, volumeOf, totalsOf}
 use Rattle.report.specs.Report.{Lent, reportOutcome}
+use Rattle.ancestry.specs.declared.Separator.{Separator}
+use Rattle.separating.specs.Separate.{SeparateTables, separateOutcome}
+use Rattle.separating.specs.Separates.{Separates}
 use Rattle.history.specs.World.{World, Call, step}
 use Rattle.history.specs.Book.{NetRecord, FileRecord, Book, entry, note}
 
@@ -35,6 +41,11 @@ pub record Reports (net : Net) (ts : List Edge) (B k : ℕ) (verdict : Verdict T
   pub never-23 : verdict ≡ refused 23 → ⊥
   pub answers : (totals : Totals) → verdict ≡ accepted totals → totals ≡ totalsOf net ts B k
 
+-- what the call that separates two vertices, lent the list of a net, answers and lists
+pub record Separated (net : Net) (ts : List Edge) (a b : ℕ) (outcome : Outcome Separator SeparateTables) : Type 0 where
+  pub never-23 : outcome .verdict ≡ refused 23 → ⊥
+  pub separates : (its : Separator) → outcome .verdict ≡ accepted its → Separates (net .parents) ts a b (its .lowest) (take (its .count) (outcome .tables .listed))
+
 -- what a net with a list holds
 pub record NetHolds (net : Net) (ts : List Edge) : Type 0 where
   pub is : net ≡ netOf (length (net .parents)) ts
@@ -44,6 +55,7 @@ pub record NetHolds (net : Net) (ts : List Edge) : Type 0 where
   pub volume-bound : (B k : ℕ) → volumeOf net ts B k ≤ boundOf net ts B k
   -- lent any numbers that read as the list, and tables of any lengths, holding anything
   pub reports : (B k : ℕ) (xs : List ℕ) (tables : Lent) → edges xs ≡ ts → Reports net ts B k (reportOutcome net B k xs tables .verdict)
+  pub separates : (a b : ℕ) (xs : List ℕ) (tables : SeparateTables) → edges xs ≡ ts → Separated net ts a b (separateOutcome net a b xs tables)
 
 -- what a file with a list holds
 pub record FileHolds (bytes : List ℕ) (ts : List Edge) : Type 0 where

@@ -14,7 +14,8 @@ use Rattle.forest.specs.Promise.{Valid}
 use Rattle.saving.specs.Save.{saveOutcome}
 use Rattle.partition.specs.Divide.{DivisionTables, divideOutcome}
 use Rattle.report.specs.Report.{Lent, reportOutcome}
-use Rattle.history.specs.World.{Call, start, add, join, save, read, relabel, divide, report, index, query}
+use Rattle.separating.specs.Separate.{SeparateTables, separateOutcome}
+use Rattle.history.specs.World.{Call, start, add, join, save, read, relabel, divide, report, index, query, separate}
 
 -- the net that a call writes when it is accepted
 unfoldable pub written : Call → Option ℕ
@@ -28,6 +29,7 @@ written (divide i B k tables) = none
 written (report i B k xs tables) = none
 written (index old more tables) = none
 written (query tables rank) = none
+written (separate i a b xs tables) = none
 
 -- whatever else a call is lent
 pub record Never30 (of : Net) : Type 0 where
@@ -38,3 +40,4 @@ pub record Never30 (of : Net) : Type 0 where
   pub save : (bytes : List ℕ) → saveOutcome of bytes .verdict ≡ refused 30 → ⊥
   pub divide : (B k : ℕ) (tables : DivisionTables) → divideOutcome of B k tables .verdict ≡ refused 30 → ⊥
   pub report : (B k : ℕ) (xs : List ℕ) (tables : Lent) → reportOutcome of B k xs tables .verdict ≡ refused 30 → ⊥
+  pub separate : (a b : ℕ) (xs : List ℕ) (tables : SeparateTables) → separateOutcome of a b xs tables .verdict ≡ refused 30 → ⊥

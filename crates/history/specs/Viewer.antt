@@ -14,7 +14,7 @@ use Rattle.moving.specs.Followed.{reread}
 use Rattle.growth.specs.Work.{withWork}
 use Rattle.adding.specs.Add.{addOutcome}
 use Rattle.joining.specs.Join.{joinOutcome}
-use Rattle.history.specs.World.{World, Call, start, add, join, save, read, relabel, divide, report, index, query, update, Step, step}
+use Rattle.history.specs.World.{World, Call, start, add, join, save, read, relabel, divide, report, index, query, separate, update, Step, step}
 
 -- an old table beside the new one, by what an addition or a join said
 unfoldable pub shown : Verdict Moved → (old new : List ℕ) → List ℕ
@@ -33,6 +33,7 @@ look w seen (divide i B k tables) = seen
 look w seen (report i B k xs tables) = seen
 look w seen (index old more tables) = seen
 look w seen (query tables rank) = seen
+look w seen (separate i a b xs tables) = seen
 
 unfoldable pub seenAfter : World → (seen : ℕ → List ℕ) → List Call → ℕ → List ℕ
 seenAfter w seen [] = seen

@@ -5,7 +5,7 @@
 -- any number of nets and link files (the bytes lent to a save or a reading). Each net and file has tables of its own, of any length;
 -- a join is lent two different nets. At first the tables hold anything. .. Translating, dividing and reporting, accepted or refused,
 -- may stand between; none of these tables is lent to them to be written." So may indexes and queries (document 02, Paper 1), whose tables
--- are no net's and no file's.
+-- are no net's and no file's, and lists of what lies between two vertices (Paper 5), which are lent a net to be read.
 -- Assumes nothing.
 use mathlib.Core.Path.{_≡_}
 use mathlib.Core.Bool.{Bool, cond}
@@ -27,6 +27,7 @@ use Rattle.report.specs.Report.{Lent, reportOutcome}
 use Rattle.indexing.specs.Index.{Index}
 use Rattle.indexing.specs.Build.{indexOutcome}
 use Rattle.querying.specs.Query.{queryOutcome}
+use Rattle.separating.specs.Separate.{SeparateTables, separateOutcome}
 
 -- nets and files by number; a file is its bytes
 pub record World : Type 0 where
@@ -46,6 +47,7 @@ pub data Call : Type 0 where
   report : (net B k : ℕ) (edges : List ℕ) (tables : Lent) → Call
   index : (old more : List ℕ) (tables : Index) → Call
   query : (tables : Index) (rank : ℕ) → Call
+  separate : (net a b : ℕ) (edges : List ℕ) (tables : SeparateTables) → Call
 
 -- f with the value at i put in the place of the old one
 unfoldable pub update : {A : Type 0} → (ℕ → A) → ℕ → A → ℕ → A
@@ -77,3 +79,4 @@ step w (divide i B k tables) = stepped (divideOutcome (w .nets i) B k tables) (�
 step w (report i B k xs tables) = stepped (reportOutcome (w .nets i) B k xs tables) (λ (t : Lent). w)
 step w (index old more tables) = stepped (indexOutcome tables old more) (λ (t : Index). w)
 step w (query tables rank) = record { accepted = eqb (queryOutcome tables rank .cell) 0; world = w }
+step w (separate i a b xs tables) = stepped (separateOutcome (w .nets i) a b xs tables) (λ (t : SeparateTables). w)

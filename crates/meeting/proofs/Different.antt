@@ -11,12 +11,12 @@ use native.Mathlib.Omega.{arith}
 use lib.Dec.{eqb}
 use borrow.Author.Tests.{eq-eqb, ne-eqb, eqb-true}
 use Rattle.game.specs.Table.{tabulate, member}
-use Rattle.game.proofs.Bools.{or-right}
+use Rattle.game.proofs.Bools.{or-right, test-cases, bool-iff}
 use Rattle.game.proofs.Tables.{member-in, in-member, tabulate-length}
 use Rattle.sorting.proofs.Counts.{count-le, count-all, count-none}
-use Rattle.trimming.proofs.Lists.{stretch, stretch-in, sum-agree, test-cases}
+use Rattle.trimming.proofs.Lists.{stretch, stretch-in, sum-agree}
 use Rattle.groups.proofs.Sums.{only, total, total-add, total-here}
-use Rattle.slots.proofs.Counts.{bool-iff, count-ext}
+use Rattle.slots.proofs.Counts.{count-ext}
 use Rattle.cost.specs.Figures.{different}
 use Rattle.cost.proofs.Sums.{count-total}
 use Rattle.meeting.specs.Taken.{allMet}

@@ -10,7 +10,7 @@ use lib.ListN.{getD, set}
 use lib.Seq.{set-getD}
 use borrow.Author.Tests.{eq-eqb, ne-eqb, lt-ltb, le-ltb}
 use Rattle.game.specs.Table.{one-if}
-use Rattle.trimming.proofs.Lists.{test-cases}
+use Rattle.game.proofs.Bools.{test-cases}
 use Rattle.meeting.specs.Steps.{unmet, known, knownAt, nextPending, nextAt, waiting, Passes}
 use Rattle.meeting.proofs.Waits.{next-none}
 

@@ -2,7 +2,7 @@
 -- going over its edges as the list has them, the count ends when as many have come, and one of its own block.
 -- Assumes nothing.
 use mathlib.Core.Path.{_≡_, refl, sym, ap, ap₂, subst, _∙_}
-use mathlib.Core.Logic.{_≢_, _⊎_, ⊎-elim, by-cases}
+use mathlib.Core.Logic.{_≢_, ⊎-elim, by-cases}
 use mathlib.Core.Bool.{Bool, true, false, _||_}
 use mathlib.Core.List.{List, [], _∷_, _++_, append-nil, List·Memᴰ, List·Memᴰ·head, List·Memᴰ·tail, List·Memᴰ·cases-cons}
 use Prim.Native.Nat.{ℕ, zero, suc, _+_, _-_, _<_}
@@ -13,9 +13,8 @@ use lib.ListN.{getD, take}
 use borrow.Author.Tests.{eq-eqb, ne-eqb, lt-ltb, le-ltb}
 use Rattle.game.specs.Table.{member, one-if}
 use Rattle.game.specs.Edge.{Edge, lower}
-use Rattle.game.proofs.Bools.{or-left, or-right}
+use Rattle.game.proofs.Bools.{or-left, or-right, test-cases}
 use Rattle.game.proofs.Tables.{member-in, in-member}
-use Rattle.trimming.proofs.Lists.{test-cases}
 use Rattle.cost.specs.Figures.{touches}
 use Rattle.meeting.specs.Taken.{allMet, takenAfter}
 use Rattle.meeting.specs.Steps.{unmet, nextPending, nextAt, waiting, waits}

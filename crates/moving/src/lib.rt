@@ -2,7 +2,7 @@
 // While they work, it is the number of a vertex, absent where none has moved.
 use net::Net;
 ghost use mathlib.Core.Path.{_≡_};
-ghost use Prim.Native.Nat.{_<_, min};
+ghost use Prim.Native.Nat.{_<_, min, max};
 ghost use lib.ListN.{length, getD, set};
 ghost use Rattle.refusal.specs.Verdict.{accepted as acceptedWith};
 ghost use Rattle.moving.specs.Moved.{rankOf};
@@ -26,6 +26,13 @@ pub fn lower(a: u32, b: u32) -> u32
     ensures { λ r. ⌜ r ≡ min a b ⌝ }
 {
     if b < a { b } else { a }
+}
+
+// The higher of two vertices.
+pub fn higher(a: u32, b: u32) -> u32
+    ensures { λ r. ⌜ r ≡ max a b ⌝ }
+{
+    if a < b { b } else { a }
 }
 
 // Makes y the parent of w, which has the parent from before still. Answers the lowest vertex that moved, of those so far and w.

@@ -13,7 +13,7 @@ use Rattle.game.specs.Game.{absent}
 use Rattle.game.proofs.Sound.{Sound}
 use Rattle.game.proofs.Climbs.{Climbs, top, climbs-le}
 use Rattle.overlaps.specs.Jumps.{Jump, Jumps, Under, Found}
-use Rattle.slots.proofs.Subtree.{climbs-trans, climbs-parent, climbs-inside}
+use Rattle.game.proofs.Subtree.{climbs-trans, climbs-parent, climbs-inside}
 
 module _ {p : List ℕ} (s : Sound p) (ends : List ℕ) {k : ℕ} where
   -- a climb from a vertex that is over to one that is not goes up

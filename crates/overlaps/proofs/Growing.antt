@@ -3,28 +3,29 @@
 -- Assumes nothing.
 use mathlib.Core.Path.{_≡_, refl, sym, _∙_}
 use mathlib.Core.Logic.{_≢_, _⊎_, ⊎-elim, by-cases}
-use mathlib.Core.Bool.{Bool, true, false, _&&_, _||_, cond, true≢false}
-use mathlib.Core.List.{List, [], _∷_, List·Memᴰ}
-use Prim.Native.Nat.{ℕ, zero, suc, _+_, _≤_, _<_}
+use mathlib.Core.Bool.{Bool, true, false, _&&_, _||_, true≢false}
+use mathlib.Core.List.{List, _∷_, List·Memᴰ}
+use Prim.Native.Nat.{ℕ, _+_, _≤_, _<_}
 use native.Mathlib.Nat.{add-zero}
 use native.Mathlib.Decide.{ℕ-discrete}
 use native.Mathlib.Omega.{arith}
-use lib.Dec.{eqb, ltb}
-use lib.ListN.{length, getD}
-use borrow.Author.Tests.{eq-eqb, ne-eqb, eqb-true, ltb-true}
+use lib.Dec.{eqb}
+use lib.ListN.{length}
+use borrow.Author.Tests.{eq-eqb, ne-eqb, eqb-true}
 use Rattle.game.specs.Edge.{Edge, _─_}
 use Rattle.game.specs.Game.{absent}
 use Rattle.game.specs.Table.{one-if, some-entry}
 use Rattle.game.specs.Tree.{climb, ancestors, under}
 use Rattle.game.specs.Net.{enters, reach}
-use Rattle.game.proofs.Bools.{or-right, and-both, both-and}
-use Rattle.game.proofs.Sound.{Sound, sound-parent}
-use Rattle.game.proofs.Links.{parent-inside}
-use Rattle.game.proofs.Climbs.{Climbs, top, up, climbs-le}
-use Rattle.game.proofs.Ancestors.{under-climbs, climbs-under, above-ancestor}
-use Rattle.slots.proofs.Subtree.{under-below, climbs-trans, climbs-chain}
+use Rattle.game.proofs.Bools.{or-right, and-both, both-and, bool-false}
+use Rattle.game.proofs.Sound.{Sound}
+use Rattle.game.proofs.Climbs.{Climbs, climbs-le}
+use Rattle.game.proofs.Ancestors.{under-climbs, climbs-under, climbs-ancestor}
+use Rattle.game.proofs.Subtree.{under-below, climbs-trans, climbs-chain}
+use Rattle.game.proofs.Lists.{rising-over}
+use Rattle.game.proofs.Paths.{ancestors-rising}
 use Rattle.overlaps.proofs.Paths.{on-path, lit}
-use Rattle.slots.proofs.Counts.{bool-false, Rising, none, next, rising-above, count-ext, count-more, entry-some, some-entry-in}
+use Rattle.slots.proofs.Counts.{count-ext, count-more, entry-some, some-entry-in}
 
 -- an edge of the list joins y with a vertex of the subtree of x
 pub record Met (p : List ℕ) (visited : List Edge) (y x : ℕ) : Type 0 where
@@ -44,26 +45,6 @@ pub record Upward (es : List Edge) : Type 0 where
   pub each : (a b : ℕ) → List·Memᴰ (a ─ b) es → a < b
 
 module _ {p : List ℕ} (s : Sound p) (n : length p ≤ absent) where
-  climb-rising : (k x : ℕ) → Rising x (climb k p x)
-  unfolding climb
-  climb-rising zero x = none
-  climb-rising (suc k) x = go (ltb q (length p)) refl (climb-rising k q)
-    where
-      q : ℕ
-      q = getD p x absent
-
-      go : (t : Bool) → ltb q (length p) ≡ t → Rising q (climb k p q) → Rising x (cond t (q ∷ climb k p q) [])
-      go false e r = none
-      go true e r =
-          let h : q < length p = ltb-true q (length p) e in
-          let d : q ≢ absent = omega arith in
-          next (sound-parent s x (parent-inside p x d) d .0) r
-
-  -- ancestors rise
-  pub ancestors-rising : (x : ℕ) → Rising x (ancestors p x)
-  unfolding ancestors
-  ancestors-rising x = climb-rising (length p) x
-
   -- of an edge that is written upward, only the lower end can be under x and the upper end above x
   enters-up : (x y a b : ℕ) → x < y → a < b → enters p x y (a ─ b) ≡ (eqb b y && under p x a)
   unfolding enters
@@ -71,11 +52,6 @@ module _ {p : List ℕ} (s : Sound p) (n : length p ≤ absent) where
       by-cases (ℕ-discrete a y)
       (λ (e : a ≡ y). rw (eq-eqb a y e, under-below s n x b (omega arith)))
       (λ (d : a ≢ y). rw (ne-eqb a y d))
-
-  -- who is reached by climbing is an ancestor
-  climbs-ancestor : {x y : ℕ} → Climbs p y x → x ≢ y → List·Memᴰ y (ancestors p x)
-  climbs-ancestor top d = absurd (d refl)
-  climbs-ancestor (up {c = c} m k) d = above-ancestor s (record { next = c; link = m; rest = k })
 
   module _ {visited : List Edge} {u y r : ℕ} (upward : Upward visited) (h : u < y) (ends : Ends p visited u y r) (x : ℕ) where
     seen : ℕ → Bool
@@ -109,7 +85,7 @@ module _ {p : List ℕ} (s : Sound p) (n : length p ≤ absent) where
 
     same : ((z : ℕ) → x < z → seen-more z ≡ seen z) → reach p ((u ─ y) ∷ visited) x ≡ reach p visited x
     unfolding seen seen-more reach
-    same f = count-ext seen-more seen (ancestors p x) (λ z m. f z (rising-above (ancestors-rising x) m))
+    same f = count-ext seen-more seen (ancestors p x) (λ z m. f z (rising-over (ancestors-rising s n x) m))
 
     -- u is not under x: nothing is new
     apart : under p x u ≡ false → (z : ℕ) → x < z → seen-more z ≡ seen z
@@ -138,12 +114,12 @@ module _ {p : List ℕ} (s : Sound p) (n : length p ≤ absent) where
     fresh k f =
         let j : Climbs p y x = ⊎-elim (λ a. a) (λ b. absurd (f (climbs-trans (ends .here) b))) (climbs-chain k (climbs-trans (ends .climb) (ends .here))) in
         let d : x ≢ y = λ e. f (rw e (ends .here)) in
-        let m : List·Memᴰ y (ancestors p x) = climbs-ancestor j d in
-        let l : x < y = rising-above (ancestors-rising x) m in
+        let m : List·Memᴰ y (ancestors p x) = climbs-ancestor s j d in
+        let l : x < y = rising-over (ancestors-rising s n x) m in
         let new : seen y ≡ false = bool-false (seen y) (λ e. f (ends .first x k (seen-met l e))) in
-        count-more seen seen-more (ancestors-rising x) m new
+        count-more seen seen-more (ancestors-rising s n x) m new
         (more y l ∙ rw (eq-eqb y y refl, climbs-under s k))
-        (λ z i. more-other z (rising-above (ancestors-rising x) i))
+        (λ z i. more-other z (rising-over (ancestors-rising s n x) i))
 
     -- the reaches grow by 1 on the path
     pub reach-step : reach p ((u ─ y) ∷ visited) x ≡ reach p visited x + lit p u r x

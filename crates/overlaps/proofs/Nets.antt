@@ -33,7 +33,7 @@ use Rattle.slots.specs.Layout.{Layout}
 use Rattle.slots.specs.InSlots.{upward, Fileable, InSlots, Marked}
 use Rattle.overlaps.specs.Visit.{Slotted, Empty}
 use Rattle.slots.specs.Given.{lowerCount, lowerCounts, Given}
-use Rattle.slots.proofs.Subtree.{climbs-rest}
+use Rattle.game.proofs.Subtree.{climbs-rest}
 use Rattle.overlaps.proofs.SameEdges.{reach-order}
 
 -- an edge of the list, written upward, joins its two ends

@@ -18,7 +18,7 @@ use Rattle.game.proofs.Sound.{Sound}
 use Rattle.game.proofs.Links.{link-inv, link-up}
 use Rattle.game.proofs.Climbs.{Climbs, top, up, climbs-le}
 use Rattle.slots.specs.Balance.{childSum}
-use Rattle.slots.proofs.Subtree.{under-self, under-below, under-link}
+use Rattle.game.proofs.Subtree.{under-self, under-below, under-link}
 use Rattle.slots.proofs.Children.{unit, unit-here, unit-elsewhere, childSum-ext, childSum-add, childSum-none, childSum-unit}
 
 -- x lies on the path from u up to, but not with, r

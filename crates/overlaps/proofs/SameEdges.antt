@@ -14,8 +14,9 @@ use Rattle.game.specs.Graph.{Same, nil, keep, flip, swap, trans}
 use Rattle.game.specs.Table.{one-if, count, some-entry}
 use Rattle.game.specs.Tree.{ancestors, under}
 use Rattle.game.specs.Net.{enters, reach}
+use Rattle.game.proofs.Bools.{bool-iff}
 use Rattle.slots.specs.InSlots.{upward}
-use Rattle.slots.proofs.Counts.{bool-iff, entry-some, some-entry-in, count-ext}
+use Rattle.slots.proofs.Counts.{entry-some, some-entry-in, count-ext}
 
 or-comm : (a b : Bool) → (a || b) ≡ (b || a)
 or-comm true true = refl

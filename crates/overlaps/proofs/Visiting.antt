@@ -22,7 +22,7 @@ use Rattle.overlaps.specs.Jumps.{Jumps, Under, Found}
 use Rattle.slots.specs.Layout.{Own}
 use Rattle.slots.specs.InSlots.{upward}
 use Rattle.overlaps.specs.Visit.{Slotted, Empty}
-use Rattle.slots.proofs.Subtree.{climbs-trans}
+use Rattle.game.proofs.Subtree.{climbs-trans}
 use Rattle.slots.proofs.Children.{unit, unit-here, unit-elsewhere, unit-small, childSum-ext, childSum-add, childSum-none}
 use Rattle.overlaps.proofs.Paths.{lit, path-balance}
 use Rattle.overlaps.proofs.Growing.{Ends, Upward, reach-step}

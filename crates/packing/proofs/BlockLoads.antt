@@ -15,9 +15,10 @@ use lib.Seq.{getD-set-same, getD-set-other}
 use borrow.Author.Tests.{eq-eqb, ne-eqb, ltb-true, ltb-false}
 use Rattle.game.specs.Table.{tabulateFrom, sum}
 use Rattle.game.proofs.Tables.{sum-zeros, sum-set}
+use Rattle.game.proofs.Bools.{test-cases}
 use Rattle.trimming.specs.Cut.{best}
 use Rattle.packing.specs.Pack.{lightest, put, loadsBelow, blockOf}
-use Rattle.trimming.proofs.Lists.{test-cases, stretch, stretch-rising, stretch-in, in-stretch}
+use Rattle.trimming.proofs.Lists.{stretch, stretch-rising, stretch-in, in-stretch}
 use Rattle.trimming.proofs.Best.{Best, best-is, lighter}
 use Rattle.groups.proofs.Sums.{only, total, total-grown}
 

@@ -21,12 +21,14 @@ use Rattle.game.proofs.Tables.{tabulate-entry}
 use Rattle.trimming.specs.Cut.{carried, cut, top, isTop, groupWeight}
 use Rattle.packing.specs.Pack.{loadsBelow, blockOf, largest}
 use Rattle.game.specs.Net.{net}
+use Rattle.game.proofs.Bools.{test-cases}
+use Rattle.game.proofs.Paths.{parent-higher}
 use Rattle.partition.specs.Divide.{divided}
 use Rattle.trimming.specs.Steps.{Divisible, Grouped}
-use Rattle.trimming.proofs.Lists.{test-cases, stretch, stretch-in, sum-agree}
+use Rattle.trimming.proofs.Lists.{stretch, stretch-in, sum-agree}
 use Rattle.groups.proofs.Sums.{only, total-filtered}
 use Rattle.trimming.proofs.Carried.{entry, greedy-carrying, carried-fits}
-use Rattle.groups.proofs.Groups.{top-up, parent-higher, group-weight, chosen-weight}
+use Rattle.groups.proofs.Groups.{top-up, group-weight, chosen-weight}
 use Rattle.packing.proofs.BlockLoads.{loads-length, loads-sum, load-entry, loads-even, sum-spread}
 use Rattle.packing.proofs.Blocks.{topIn}
 use Rattle.partition.proofs.Divided.{tops-entry, groups-weight}

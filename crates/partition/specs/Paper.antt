@@ -5,18 +5,13 @@ use mathlib.Core.List.{List, [], _∷_}
 use Prim.Native.Nat.{ℕ}
 use lib.ListN.{replicate}
 use Rattle.game.specs.Table.{sum}
-use Rattle.game.specs.Game.{absent}
-use Rattle.game.specs.Net.{Net}
 use Rattle.game.specs.Tree.{sound}
+use Rattle.game.specs.Case.{whole}
 use Rattle.net.specs.Damage.{damagedBy, damaged}
 use Rattle.refusal.specs.Refusal.{given, first, unless, badCount}
 use Rattle.refusal.specs.Verdict.{accepted, refused, judged}
 use Rattle.refusal.specs.Outcome.{Done, ended, decided}
 use Rattle.partition.specs.Divide.{DivisionTables, divisionOf, badLimits, tooHeavy, divided, wrongTables, divideRefusal, divideOutcome}
-
--- the net of the whole case, by rank
-net : Net
-net = record { parents = 2 ∷ 3 ∷ 4 ∷ 4 ∷ 5 ∷ absent ∷ []; weights = 3 ∷ 2 ∷ 1 ∷ 0 ∷ 0 ∷ 0 ∷ [] }
 
 -- tables of the right lengths, lent with sevens in them
 lent : ℕ → DivisionTables
@@ -25,12 +20,12 @@ lent k = divisionOf (replicate 6 7) (replicate 6 7) (replicate 6 7) (replicate k
 -- B = 4 and k = 2; B = 3; k = 1; B = 2, which is refused; a block count of 0, and a table too long for it
 pub computed : List (Done DivisionTables)
 computed =
-    divideOutcome net 4 2 (lent 2)
-    ∷ divideOutcome net 3 2 (lent 2)
-    ∷ divideOutcome net 4 1 (lent 1)
-    ∷ divideOutcome net 2 2 (lent 2)
-    ∷ divideOutcome net 4 0 (lent 0)
-    ∷ divideOutcome net 4 0 (lent 1)
+    divideOutcome whole 4 2 (lent 2)
+    ∷ divideOutcome whole 3 2 (lent 2)
+    ∷ divideOutcome whole 4 1 (lent 1)
+    ∷ divideOutcome whole 2 2 (lent 2)
+    ∷ divideOutcome whole 4 0 (lent 0)
+    ∷ divideOutcome whole 4 0 (lent 1)
     ∷ []
 
 pub printed : List (Done DivisionTables)
@@ -44,5 +39,5 @@ printed =
     ∷ []
 
 pub paper : computed ≡ printed
-unfolding computed printed net lent divideOutcome divideRefusal decided first given badCount wrongTables badLimits tooHeavy divided damaged damagedBy unless judged sound sum
+unfolding computed printed whole lent divideOutcome divideRefusal decided first given badCount wrongTables badLimits tooHeavy divided damaged damagedBy unless judged sound sum
 paper = refl

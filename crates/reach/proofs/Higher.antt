@@ -2,7 +2,7 @@
 -- the subtree of x are the set S at the moment when x is eliminated.
 -- Assumes nothing.
 use mathlib.Core.Path.{_≡_, refl, ap, _∙_}
-use mathlib.Core.Logic.{_≢_, _⊎_, ⊎-elim, by-cases}
+use mathlib.Core.Logic.{_≢_, ⊎-elim, by-cases}
 use mathlib.Core.Bool.{Bool, true, false, not, _&&_, _||_, cond}
 use mathlib.Core.List.{List, [], _∷_, List·Memᴰ, List·Memᴰ·head, List·Memᴰ·tail}
 use Prim.Native.Nat.{ℕ, zero, suc, _+_, _≤_, _<_}
@@ -17,7 +17,7 @@ use Rattle.game.specs.Edge.{Edge, _─_}
 use Rattle.game.specs.Game.{absent, include, higher, clique, filled, forest}
 use Rattle.game.specs.Tree.{ancestors, under}
 use Rattle.game.specs.Net.{enters, reach}
-use Rattle.game.proofs.Bools.{or-cases, or-left, or-right, and-both, both-and}
+use Rattle.game.proofs.Bools.{or-cases, or-left, or-right, and-both, both-and, bool-iff}
 use Rattle.game.proofs.Tables.{member-in, in-member}
 use Rattle.game.proofs.Conn.{Conn, stay, go, conn-to, conn-up, conn-sym, conn-step, conn-trans, linked-sym, linked-cases, within-conn}
 use Rattle.game.specs.Graph.{Linked, forth, back, Proper}
@@ -26,8 +26,9 @@ use Rattle.game.proofs.Filled.{higher-linked, linked-higher, clique-in, Low, on
 use Rattle.game.proofs.Climbs.{climbs-conn, conn-climbs}
 use Rattle.game.proofs.Forest.{forest-length, forest-sound, forest-within, within-forest}
 use Rattle.game.proofs.Ancestors.{under-climbs, climbs-under, forest-ancestor}
-use Rattle.slots.proofs.Counts.{bool-iff, entry-some, some-entry-in, count-ext, Rising, rising-above, count-more}
-use Rattle.overlaps.proofs.Growing.{ancestors-rising}
+use Rattle.game.proofs.Lists.{Rising, rising-over}
+use Rattle.game.proofs.Paths.{ancestors-rising}
+use Rattle.slots.proofs.Counts.{entry-some, some-entry-in, count-ext, count-more}
 
 -- ---- walks below x and edges of the filled graph
 
@@ -176,6 +177,6 @@ module _ {n : ℕ} {g : List Edge} (small : n ≤ absent) (proper : Proper n g) 
   reach-higher =
       count-ext (λ y. some-entry (enters p x y) g) (λ y. member y s) (ancestors p x)
       (λ y m. bool-iff (some-entry (enters p x y) g) (member y s)
-      (λ e. in-member (in-set (rising-above (ancestors-rising sound known x) m) e))
+      (λ e. in-member (in-set (rising-over (ancestors-rising sound known x) m) e))
       (λ e. entered (member-in y s e)))
       ∙ count-members (ancestors-rising sound known x) (higher-distinct x (filled g x)) above

@@ -27,8 +27,7 @@ use Rattle.writing.specs.Written.{Written, figures}
 use Rattle.writing.specs.Steps.{Reportable, Answered}
 use Rattle.early.specs.Early.{earlyRefusal}
 use Rattle.report.specs.Report.{Lent, lent, wrongLent, reportRefusal, reportOutcome}
-use Rattle.compare.proofs.Sameness.{same-net}
-use Rattle.report.proofs.Own.{same-passes}
+use Rattle.compare.proofs.Sameness.{same-net, same-passes}
 use Rattle.report.proofs.Refused.{ready}
 
 module _ (of : Net) (B k : ℕ) (xs : List ℕ) (was : Lent) where

@@ -1,14 +1,13 @@
 -- A report on a net's own edges: never refused with 23, and where it is accepted, it answers its totals.
 -- Assumes nothing.
-use mathlib.Core.Path.{_≡_, refl}
+use mathlib.Core.Path.{_≡_}
 use mathlib.Core.Bool.{Bool}
 use mathlib.Core.List.{List, [], _∷_}
 use Prim.Native.Nat.{ℕ, zero, suc}
 use native.Mathlib.Omega.{arith}
 use lib.ListN.{length}
-use Rattle.game.specs.Edge.{Edge, edges}
+use Rattle.game.specs.Edge.{edges}
 use Rattle.game.specs.Net.{Net, netOf}
-use Rattle.refusal.specs.Refusal.{given}
 use Rattle.refusal.proofs.Never.{first-not, end-not, other-not, false-not, judged-number, verdict-not}
 use Rattle.compare.proofs.Refused.{list-not}
 use Rattle.forest.specs.Promise.{Valid}
@@ -19,7 +18,7 @@ use Rattle.cost.specs.Figures.{totalsOf}
 use Rattle.compare.specs.Compare.{listRefusal, unlike}
 use Rattle.early.specs.Early.{earlyRefusal}
 use Rattle.report.specs.Report.{Lent, wrongLent, reportRefusal, reportOutcome}
-use Rattle.compare.proofs.Sameness.{net-same}
+use Rattle.compare.proofs.Sameness.{same-passes}
 
 -- 23 is not given before anything is compared
 early-not-23 : (of : Net) (B k : ℕ) (xs : List ℕ) (wrong : Bool) → earlyRefusal of B k xs wrong ≡ 23 → ⊥
@@ -33,11 +32,6 @@ judged-values : {X : Type 0} (k : ℕ) (values v : X) → judged k values ≡ ac
 unfolding judged
 judged-values zero values v e = cc
 judged-values (suc k) values v e = let z : _≡_ {A = ℕ} 0 1 = cc in absurd (omega arith)
-
--- 23 is not given where the edges' net is the net
-pub same-passes : (of : Net) (es : List Edge) → of ≡ netOf (length (of .parents)) es → unlike of es ≡ 0
-unfolding unlike given
-same-passes of es is = rw (net-same of (netOf (length (of .parents)) es) is) refl
 
 module _ (of : Net) (B k : ℕ) (xs : List ℕ) (was : Lent) where
   -- "Report lent that list is never refused with 23"

@@ -1,10 +1,9 @@
 -- How the code's tests say what the definition of the refusals asks, and what is known where none was given.
 -- Assumes nothing.
-use mathlib.Core.Path.{_≡_, refl, sym, ap, _∙_}
+use mathlib.Core.Path.{_≡_, refl}
 use mathlib.Core.Bool.{Bool, false, not, _||_}
 use mathlib.Core.List.{List}
 use Prim.Native.Nat.{ℕ, _+_, _/_, _%_, _≤_, _<_}
-use native.Mathlib.Omega.{arith}
 use lib.Dec.{eqb}
 use lib.ListN.{length}
 use Rattle.game.specs.Edge.{edges}
@@ -15,12 +14,12 @@ use Rattle.refusal.specs.Limits.{maxEdges}
 use Rattle.refusal.specs.Refusal.{badCount, wrongLength, odd, firstFault}
 use Rattle.refusal.proofs.First.{first-none, given-none, good-count, length-right}
 use Rattle.growth.specs.Work.{workOf, badWork}
-use Rattle.growth.proofs.Rooms.{good-work}
 use Rattle.partition.specs.Divide.{divisionOf, wrongTables, divideRefusal}
 use Rattle.partition.proofs.Refused.{Sized, tables-not, refused-not}
 use Rattle.compare.specs.Compare.{wrongCompared}
 use Rattle.compare.specs.Steps.{Comparable}
 use Rattle.compare.proofs.Refused.{list-passed}
+use Rattle.compare.proofs.Ready.{ComparedLengths, compared-lengths, comparable}
 use Rattle.writing.specs.Written.{written}
 use Rattle.early.specs.Early.{earlyRefusal}
 use Rattle.report.specs.Report.{Lent, lent, wrongFigures, wrongLent}
@@ -50,14 +49,10 @@ pub record Lengths (of : Net) (k : ℕ) (xs : List ℕ) (was : Lent) : Type 0 wh
   pub reaches : length (was .written .reach) ≡ length (of .parents)
   pub counts : length (was .written .blockCount) ≡ length (of .parents)
   pub taken : length (was .written .edgesTaken) ≡ length (of .parents)
-  pub compared-parents : length (was .compared .parents) ≡ length (of .parents)
-  pub compared-weights : length (was .compared .weights) ≡ length (of .parents)
-  pub ends : length (was .work .ends) ≡ length (of .parents)
-  pub jump : length (was .work .jump) ≡ length (of .parents)
-  pub lower : length (was .work .lower) ≡ length (of .parents) + length (edges xs)
+  pub compared : ComparedLengths (length (of .parents)) (length (edges xs)) (was .compared) (was .work)
 
 pub lengths-right : (of : Net) (k : ℕ) (xs : List ℕ) (was : Lent) → wrongLent of k xs was ≡ false → Lengths of k xs was
-unfolding wrongLent wrongFigures wrongCompared odd
+unfolding wrongLent wrongFigures odd
 lengths-right of k xs was e =
     let a = or-neither _ _ e in
     let b = or-neither _ _ (a .0) in
@@ -65,9 +60,6 @@ lengths-right of k xs was e =
     let f3 = or-neither _ _ (c .1) in
     let f2 = or-neither _ _ (f3 .0) in
     let f1 = or-neither _ _ (f2 .0) in
-    let o2 = or-neither _ _ (b .1) in
-    let o1 = or-neither _ _ (o2 .0) in
-    let g = good-work (length (of .parents)) (length (of .parents) + length (edges xs)) (was .work) (o2 .1) in
     record {
       division = c .0;
       sized = tables-not of k (was .written .division) (c .0);
@@ -75,11 +67,7 @@ lengths-right of k xs was e =
       reaches = length-right _ _ (f1 .1);
       counts = length-right _ _ (f2 .1);
       taken = length-right _ _ (f3 .1);
-      compared-parents = length-right _ _ (o1 .0);
-      compared-weights = length-right _ _ (o1 .1);
-      ends = g .0;
-      jump = g .1;
-      lower = g .2;
+      compared = compared-lengths (length (of .parents)) (length (edges xs)) (was .compared) (was .work) (b .1);
     }
 
 -- what is known where nothing was refused before the comparison
@@ -110,17 +98,5 @@ ready of B k xs was z =
       divides = refused-not of B k (was .written .division) count (l .division) (given-none _ 7 (c .0)) (given-none _ 29 (d .0)) (given-none _ 21 (h .0));
       faultless = list .0;
       few = list .1;
-      compares = record {
-        parents = sym (l .compared-parents);
-        weights = l .sized .weights ∙ sym (l .compared-parents);
-        growable = record {
-          vertices = omega (arith, n .1, l .compared-parents);
-          few = list .1;
-          faultless = ap (λ (m : ℕ). firstFault m (edges xs)) (l .compared-parents) ∙ list .0;
-          weights = l .compared-weights ∙ sym (l .compared-parents);
-          ends = l .ends ∙ sym (l .compared-parents);
-          jump = l .jump ∙ sym (l .compared-parents);
-          lower = l .lower ∙ ap (λ (m : ℕ). m + length (edges xs)) (sym (l .compared-parents));
-        };
-      };
+      compares = comparable of xs (was .compared) (was .work) (n .1) (l .sized .weights) (l .compared) (f .0);
     }

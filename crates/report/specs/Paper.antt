@@ -8,7 +8,6 @@ use Prim.Native.Nat.{ℕ}
 use lib.ListN.{replicate}
 use Rattle.game.specs.Table.{tabulate, sum, count, member, filtered}
 use Rattle.game.specs.Edge.{lower, edges}
-use Rattle.game.specs.Game.{absent}
 use Rattle.game.specs.Tree.{sound}
 use Rattle.game.specs.Net.{Net, net, netOf, reach}
 use Rattle.refusal.specs.Refusal.{given, first, unless, badCount, wrongLength, odd, fault, firstFault}
@@ -19,23 +18,13 @@ use Rattle.sharing.specs.Share.{share, evenShare}
 use Rattle.cost.specs.Figures.{edgeBlock, edgeBlocks, touches, blocksAt, different, blockCount, isCut, bound, volume, boundOf, volumeOf, shareOf, totals, totalsOf}
 use Rattle.meeting.specs.Taken.{allMet, takenAfter, edgesTaken}
 use Rattle.compare.specs.Compare.{wrongCompared, listRefusal, sameTable, sameNet, unlike}
+use Rattle.game.specs.Case.{whole, own, other, others}
 use Rattle.refusal.specs.Verdict.{accepted, refused, judged}
 use Rattle.refusal.specs.Outcome.{Outcome, ended}
 use Rattle.cost.specs.declared.Totals.{Totals}
 use Rattle.writing.specs.Written.{Written, written, figures}
 use Rattle.early.specs.Early.{earlyRefusal}
 use Rattle.report.specs.Report.{Lent, lent, wrongFigures, wrongLent, reportRefusal, reportOutcome}
-
--- the net of the whole case and its edges, by rank
-whole : Net
-whole = net (2 ∷ 3 ∷ 4 ∷ 4 ∷ 5 ∷ absent ∷ []) (3 ∷ 2 ∷ 1 ∷ 0 ∷ 0 ∷ 0 ∷ [])
-
-own : List ℕ
-own = 0 ∷ 2 ∷ 0 ∷ 4 ∷ 1 ∷ 3 ∷ 1 ∷ 4 ∷ 2 ∷ 5 ∷ 2 ∷ 0 ∷ []
-
--- another list: its last edge leads from 1, not from 0
-other : List ℕ
-other = 0 ∷ 2 ∷ 0 ∷ 4 ∷ 1 ∷ 3 ∷ 1 ∷ 4 ∷ 2 ∷ 5 ∷ 2 ∷ 1 ∷ []
 
 -- tables of the right lengths, lent with sevens in them
 sevens : ℕ → List ℕ
@@ -86,10 +75,10 @@ printed =
     (replicate 6 0) reaches (replicate 6 1) (replicate 6 1))
     whole)
     ∷ ended (refused 22) (given-all 2)
-    ∷ ended (refused 23) (cleared-with (given-tables 2) (net (2 ∷ 2 ∷ 3 ∷ 4 ∷ 5 ∷ absent ∷ []) (2 ∷ 3 ∷ 1 ∷ 0 ∷ 0 ∷ 0 ∷ [])))
+    ∷ ended (refused 23) (cleared-with (given-tables 2) others)
     ∷ ended (refused 2) (given-all 1)
     ∷ []
 
 pub paper : computed ≡ printed
-unfolding computed printed whole own other sevens given-tables given-all cleared-with reaches reportOutcome reportRefusal earlyRefusal unlike wrongCompared listRefusal wrongLent wrongFigures figures first given unless badCount wrongLength odd fault firstFault damaged damagedBy sound badWork cleared zeros badLimits tooHeavy wrongTables divided judged sameNet sameTable netOf reach edgeBlocks edgeBlock lower blockCount different blocksAt edgesTaken takenAfter allMet filtered touches bound boundOf isCut volume volumeOf shareOf evenShare totalsOf tabulate sum count member edges
+unfolding computed printed whole own other others sevens given-tables given-all cleared-with reaches reportOutcome reportRefusal earlyRefusal unlike wrongCompared listRefusal wrongLent wrongFigures figures first given unless badCount wrongLength odd fault firstFault damaged damagedBy sound badWork cleared zeros badLimits tooHeavy wrongTables divided judged sameNet sameTable netOf reach edgeBlocks edgeBlock lower blockCount different blocksAt edgesTaken takenAfter allMet filtered touches bound boundOf isCut volume volumeOf shareOf evenShare totalsOf tabulate sum count member edges
 paper = refl

@@ -1,25 +1,15 @@
--- Tests: their values, counting the entries of a list that pass, and finding one.
+-- Counting the entries of a list that pass a test, and finding one.
 -- Assumes nothing.
 use mathlib.Core.Path.{_≡_, refl, sym, ap, ap₂, _∙_}
 use mathlib.Core.Logic.{_≢_, ⊎-elim}
 use mathlib.Core.Bool.{Bool, true, false, false≢true}
 use mathlib.Core.List.{List, [], _∷_, List·Memᴰ, List·Memᴰ·head, List·Memᴰ·tail, List·Memᴰ·not-nil, List·Memᴰ·cases-cons}
 use Prim.Native.Nat.{ℕ, _+_, _<_}
-use native.Mathlib.Nat.{lt-trans, ne-of-lt}
+use native.Mathlib.Nat.{ne-of-lt}
 use native.Mathlib.Omega.{arith}
 use Rattle.game.specs.Table.{one-if, count, some-entry}
 use Rattle.game.proofs.Bools.{or-cases, or-left, or-right}
-
--- two tests that pass together have one value
-pub bool-iff : (a b : Bool) → (a ≡ true → b ≡ true) → (b ≡ true → a ≡ true) → a ≡ b
-bool-iff true b f g = sym (f refl)
-bool-iff false true f g = g refl
-bool-iff false false f g = refl
-
--- a test that does not pass
-pub bool-false : (a : Bool) → (a ≡ true → ⊥) → a ≡ false
-bool-false true f = absurd (f refl)
-bool-false false f = refl
+use Rattle.game.proofs.Lists.{Rising, done, more, rising-over}
 
 module _ {A : Type 0} where
   -- an entry that passes the test
@@ -45,29 +35,19 @@ module _ {A : Type 0} where
   count-ext t u (x ∷ xs) h =
       ap₂ (λ b k. one-if b + k) (h x (List·Memᴰ·head refl)) (count-ext t u xs (λ a m. h a (List·Memᴰ·tail m)))
 
--- a list whose entries rise, all of them above z
-pub data Rising : ℕ → List ℕ → Type 0 where
-  none : {z : ℕ} → Rising z []
-  next : {z y : ℕ} {ys : List ℕ} → z < y → Rising y ys → Rising z (y ∷ ys)
-
--- its entries are above z
-pub rising-above : {z y : ℕ} {ys : List ℕ} → Rising z ys → List·Memᴰ y ys → z < y
-rising-above none m = absurd (List·Memᴰ·not-nil m)
-rising-above (next h r) m = ⊎-elim (λ e. rw e h) (λ k. lt-trans h (rising-above r k)) (List·Memᴰ·cases-cons m)
-
 -- a test that passes for one entry more counts one more
 pub count-more : (t u : ℕ → Bool) {z y : ℕ} {ys : List ℕ} → Rising z ys → List·Memᴰ y ys → t y ≡ false → u y ≡ true
     → ((x : ℕ) → List·Memᴰ x ys → x ≢ y → u x ≡ t x) → count u ys ≡ count t ys + 1
 unfolding count one-if
-count-more t u none m f g h = absurd (List·Memᴰ·not-nil m)
-count-more t u {y = y} (next {y = x} {ys = ys} l r) m f g h =
+count-more t u done m f g h = absurd (List·Memᴰ·not-nil m)
+count-more t u {y = y} (more {y = x} {ys = ys} l r) m f g h =
     ⊎-elim
     (λ (e : y ≡ x).
     let same : count u ys ≡ count t ys =
-    count-ext u t ys (λ a k. h a (List·Memᴰ·tail k) (λ q. ne-of-lt (rising-above r k) (sym (q ∙ e)))) in
+    count-ext u t ys (λ a k. h a (List·Memᴰ·tail k) (λ q. ne-of-lt (rising-over r k) (sym (q ∙ e)))) in
     rw (← e, f, g, same) (omega arith))
     (λ k.
-    let less : x < y = rising-above r k in
+    let less : x < y = rising-over r k in
     let rest : count u ys ≡ count t ys + 1 = count-more t u r k f g (λ a i. h a (List·Memᴰ·tail i)) in
     rw (h x (List·Memᴰ·head refl) (omega arith)) (omega arith))
     (List·Memᴰ·cases-cons m)

@@ -1,5 +1,4 @@
 -- Laws of the slots, by subject. Nothing here needs to be believed: it is all proved.
-pub mod Subtree
 pub mod Children
 pub mod Counts
 pub mod Slots

@@ -13,7 +13,7 @@ use Rattle.game.proofs.Sound.{sound-parent, getD-default}
 use Rattle.game.proofs.Climbs.{top}
 use Rattle.slots.specs.Balance.{entryOf, childSum, Subtrees}
 use Rattle.slots.specs.Layout.{Own, Layout}
-use Rattle.slots.proofs.Subtree.{climbs-inside}
+use Rattle.game.proofs.Subtree.{climbs-inside}
 use Rattle.slots.proofs.Stretches.{Place, Host, Placed, placed-first, placed-fits, placed-step}
 
 -- the same of tables: what each vertex has left ends at `stops`, its stretch at `ends`, and what the roots have left at `top`

@@ -14,7 +14,7 @@ use Rattle.game.specs.Game.{absent}
 use Rattle.game.proofs.Links.{link-of}
 use Rattle.game.proofs.Climbs.{Climbs, top, up, climbs-le}
 use Rattle.slots.specs.Balance.{childSum, Subtrees}
-use Rattle.slots.proofs.Subtree.{climbs-antisym, climbs-root, climbs-rest}
+use Rattle.game.proofs.Subtree.{climbs-antisym, climbs-root, climbs-rest}
 use Rattle.slots.proofs.Children.{childSum-here, childSum-other}
 
 -- x is a vertex of the forest, or stands for the parent of the roots

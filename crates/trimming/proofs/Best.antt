@@ -9,8 +9,8 @@ use native.Mathlib.Omega.{arith}
 use lib.Dec.{ltb}
 use borrow.Author.Tests.{ltb-true, ltb-false, lt-ltb, le-ltb}
 use Rattle.trimming.specs.Cut.{best}
-use Rattle.trimming.specs.Steps.{Rising, more}
-use Rattle.trimming.proofs.Lists.{test-cases, rising-down}
+use Rattle.game.proofs.Bools.{test-cases}
+use Rattle.game.proofs.Lists.{Rising, more, rising-down}
 
 -- h is of the list, no other beats it, and those that it does not beat come later
 pub record Best (beats : ℕ → ℕ → Bool) (ys : List ℕ) (h : ℕ) : Type 0 where

@@ -18,9 +18,9 @@ use Rattle.game.specs.Table.{tabulate, member, filtered}
 use Rattle.game.specs.Game.{absent}
 use Rattle.game.proofs.Sound.{Sound}
 use Rattle.game.proofs.Tables.{member-in, in-member}
+use Rattle.game.proofs.Lists.{Rising, filtered-in, in-filtered, rising-filtered, rising-ext}
 use Rattle.trimming.specs.Cut.{childrenBelow, children, carries, carriedBelow, carriedUnder, kept, carried, cut}
-use Rattle.trimming.specs.Steps.{Rising}
-use Rattle.trimming.proofs.Lists.{filtered-in, in-filtered, rising-filtered, rising-ext, stretch-rising, stretch-in, in-stretch}
+use Rattle.trimming.proofs.Lists.{stretch-rising, stretch-in, in-stretch}
 use Rattle.trimming.proofs.Trimming.{carries-agree, trim-in, trim-rising, trim-agree, trim-fits, trim-keeps}
 
 -- a table as a rule

@@ -8,8 +8,8 @@ use native.Mathlib.Omega.{arith}
 use lib.ListN.{getD, set}
 use lib.Seq.{getD-set-other}
 use Rattle.game.specs.Game.{absent}
-use Rattle.trimming.specs.Steps.{Chain, end, node, Rising, more, Falling, none, less}
-use Rattle.trimming.proofs.Lists.{rising-over}
+use Rattle.game.proofs.Lists.{Rising, more, rising-over}
+use Rattle.trimming.specs.Steps.{Chain, end, node, Falling, none, less}
 
 -- a list goes by the entries of its own ranks alone
 pub chain-agree : {next next′ ys : List ℕ} {h : ℕ} → ((z : ℕ) → List·Memᴰ z ys → getD next′ z 0 ≡ getD next z 0) → Chain next h ys → Chain next′ h ys

@@ -10,8 +10,8 @@ use native.Mathlib.Omega.{arith}
 use lib.ListN.{getD}
 use borrow.Author.Tests.{lt-ltb, le-ltb}
 use Rattle.game.specs.Game.{absent}
-use Rattle.trimming.specs.Steps.{Chain, end, node, Rising, more}
-use Rattle.trimming.proofs.Lists.{rising-down, rising-over}
+use Rattle.game.proofs.Lists.{Rising, more, rising-down, rising-over}
+use Rattle.trimming.specs.Steps.{Chain, end, node}
 use Rattle.trimming.proofs.Trimming.{Heaviest}
 
 -- z carries less than f, or as much and is not below h

@@ -11,7 +11,7 @@ use lib.Dec.{ltb}
 use lib.ListN.{length}
 use borrow.Author.Tests.{lt-ltb, le-ltb, ltb-false}
 use Rattle.trimming.specs.Cut.{carries, heaviest, without, trim}
-use Rattle.trimming.specs.Steps.{Rising, done, more}
+use Rattle.game.proofs.Lists.{Rising, done, more}
 use Rattle.trimming.proofs.Lists.{rising-without, without-in, in-without, without-shorter, sum-agree, sum-nought}
 use Rattle.trimming.proofs.Best.{Best, best-unique, best-is, heavier}
 

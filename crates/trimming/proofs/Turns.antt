@@ -15,10 +15,12 @@ use borrow.Author.Tests.{ltb-false, ltb-true, eqb-true, eq-eqb, ne-eqb}
 use Rattle.game.specs.Table.{sum}
 use Rattle.game.specs.Game.{absent}
 use Rattle.game.proofs.Sound.{getD-default}
+use Rattle.game.proofs.Bools.{test-cases}
+use Rattle.game.proofs.Lists.{Rising, rising-down, rising-ext}
 use Rattle.refusal.specs.Limits.{maxVertices, maxTotal}
 use Rattle.trimming.specs.Cut.{carries, without, trim}
-use Rattle.trimming.specs.Steps.{Chain, Rising, hanging, Loaded, Candidates, Released, Trimmed}
-use Rattle.trimming.proofs.Lists.{test-cases, rising-down, rising-ext, rising-without, without-in, in-without, without-shorter, sum-without, sum-entry-in}
+use Rattle.trimming.specs.Steps.{Chain, hanging, Loaded, Candidates, Released, Trimmed}
+use Rattle.trimming.proofs.Lists.{rising-without, without-in, in-without, without-shorter, sum-without, sum-entry-in}
 use Rattle.trimming.proofs.Trimming.{Heaviest, trim-cut, trim-enough}
 use Rattle.trimming.proofs.Carried.{entry, below-in, in-below, below-rising}
 use Rattle.trimming.proofs.Chains.{After, chain-same, chain-after}

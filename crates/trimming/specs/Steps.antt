@@ -10,6 +10,7 @@ use lib.ListN.{length, getD, replicate}
 use Rattle.game.specs.Table.{tabulate, sum, filtered}
 use Rattle.game.specs.Game.{absent}
 use Rattle.game.specs.Tree.{sound}
+use Rattle.game.proofs.Lists.{Rising}
 use Rattle.refusal.specs.Limits.{maxVertices, maxTotal}
 use Rattle.trimming.specs.Cut.{childrenBelow, carries, trim, carried, cut, top}
 
@@ -26,11 +27,6 @@ pub record Divisible (p w : List ℕ) (B : ℕ) : Type 0 where
 pub data Chain (next : List ℕ) : ℕ → List ℕ → Type 0 where
   end : {h : ℕ} → h ≡ absent → Chain next h []
   node : {h y : ℕ} {ys : List ℕ} → h ≡ y → Chain next (getD next y 0) ys → Chain next h (y ∷ ys)
-
--- by rising rank, from a on
-pub data Rising : ℕ → List ℕ → Type 0 where
-  done : {a : ℕ} → Rising a []
-  more : {a y : ℕ} {ys : List ℕ} → a ≤ y → Rising (suc y) ys → Rising a (y ∷ ys)
 
 -- by falling rank, below a
 pub data Falling : ℕ → List ℕ → Type 0 where

@@ -11,16 +11,15 @@ use native.Mathlib.Omega.{arith}
 use lib.Dec.{eqb}
 use lib.ListN.{length, getD}
 use borrow.Author.Tests.{eq-eqb}
 use Rattle.game.specs.Table.{member}
 use Rattle.game.specs.Edge.{_─_}
 use Rattle.game.specs.Game.{absent}
 use Rattle.game.specs.Tree.{links, ancestors, under}
-use Rattle.game.proofs.Bools.{or-left}
+use Rattle.game.proofs.Bools.{or-left, bool-iff, bool-false}
 use Rattle.game.proofs.Sound.{Sound}
 use Rattle.game.proofs.Links.{link-inv, link-up}
 use Rattle.game.proofs.Climbs.{Climbs, top, up, link-same, climbs-le}
 use Rattle.game.proofs.Ancestors.{under-climbs, climbs-under}
-use Rattle.slots.proofs.Counts.{bool-iff, bool-false}
 
 -- climbs are joined end to end
 pub climbs-trans : {p : List ℕ} {x y z : ℕ} → Climbs p y x → Climbs p z y → Climbs p z x

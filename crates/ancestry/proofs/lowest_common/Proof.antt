@@ -1,0 +1,57 @@
+use mathlib.Core.Logic.{inl}
+use Prim.Native.Nat.{_+_, _-_}
+use borrow.Author.Needs.{needs}
+use Rattle.game.specs.Game.{absent}
+use Rattle.ancestry.specs.Steps.{Walkable}
+use Rattle.ancestry.proofs.Walk.{Walks, walk-start, walks-low, walks-step, walks-less, walks-end}
+use Rattle.ancestry.proofs.lowest_common.Statement.{statement}
+use Rattle.ancestry.proofs.lowest_common.Tie as tie
+
+abbrev Inv-loop : tie.InvT-loop
+Inv-loop parents one other a₀ b₀ a b = Walkable parents × Walks parents one other a b
+
+abbrev μ-loop : tie.MeasureT-loop
+μ-loop parents one other a₀ b₀ a b = (absent - a) + (absent - b)
+
+loop-holds : tie.Need-loop-holds Inv-loop μ-loop
+loop-holds c = (c .before .pre .0, inl (walk-start (c .before .pre .0) (c .before .pre .1) (c .before .pre .2)))
+
+lower-requires : tie.Need-lower-requires Inv-loop μ-loop
+lower-requires c κs = search needs
+
+higher-requires : tie.Need-higher-requires Inv-loop μ-loop
+higher-requires c κs = search needs
+
+cast-a : tie.Need-cast-a Inv-loop μ-loop
+cast-a c = search needs
+
+mul-a : tie.Need-mul-a Inv-loop μ-loop
+mul-a c = search needs
+
+shared-slice-read-a : tie.Need-shared-slice-read-a Inv-loop μ-loop
+shared-slice-read-a c = walks-low (c .before .before .before .before .loop .inv .0) (c .before .before .before .before .loop .inv .1) (c .before .before .before .loop-test .taken) (c .before .before .lower .ensures) (c .before .higher .ensures)
+
+loop-less : tie.Need-loop-less Inv-loop μ-loop
+loop-less c = walks-less (c .before .before .before .before .loop .inv .0) (c .before .before .before .before .loop .inv .1) (c .before .before .before .loop-test .taken) (c .before .before .lower .ensures) (c .before .higher .ensures)
+
+loop-again : tie.Need-loop-again Inv-loop μ-loop
+loop-again c = (c .before .before .before .before .loop .inv .0, walks-step (c .before .before .before .before .loop .inv .0) (c .before .before .before .before .loop .inv .1) (c .before .before .before .loop-test .taken) (c .before .before .lower .ensures) (c .before .higher .ensures))
+
+returns : tie.Need-returns Inv-loop μ-loop
+returns c = walks-end (c .before .loop .inv .0) (c .before .loop .inv .1) (c .loop-test .left)
+
+pub lowest-common-spec : {M : Type 1} → statement M
+lowest-common-spec =
+    tie.close
+    (tie.spec
+    Inv-loop
+    μ-loop
+    loop-holds
+    lower-requires
+    higher-requires
+    cast-a
+    mul-a
+    shared-slice-read-a
+    loop-less
+    loop-again
+    returns)

@@ -1,0 +1,45 @@
+use borrow.Author.Needs.{needs}
+use Rattle.exports.proofs.Answered.{filled-as}
+use Rattle.exports.proofs.niqastul_separate.Statement.{statement}
+use Rattle.exports.proofs.niqastul_separate.Tie as tie
+
+separate-requires : tie.Need-separate-requires
+separate-requires c κs = search needs
+
+hand-separator-requires : tie.Need-hand-separator-requires
+hand-separator-requires c κs = search needs
+
+same-length : tie.Need-same-length
+same-length c = search needs
+
+same-length-2 : tie.Need-same-length-2
+same-length-2 c = search needs
+
+same-length-3 : tie.Need-same-length-3
+same-length-3 c = search needs
+
+same-length-4 : tie.Need-same-length-4
+same-length-4 c = search needs
+
+same-length-5 : tie.Need-same-length-5
+same-length-5 c = search needs
+
+same-length-6 : tie.Need-same-length-6
+same-length-6 c = search needs
+
+returns : tie.Need-returns
+returns c = filled-as _ _ (c .hand-separator .ensures .0) (c .hand-separator .ensures .1) (c .before .before .before .before .before .before .before .before .before .before .before .before .before .before .before .separate .ensures)
+
+pub niqastul-separate-spec : {M : Type 1} → statement M
+niqastul-separate-spec =
+    tie.close
+    (tie.spec
+    separate-requires
+    hand-separator-requires
+    same-length
+    same-length-2
+    same-length-3
+    same-length-4
+    same-length-5
+    same-length-6
+    returns)

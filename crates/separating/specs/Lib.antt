@@ -1,0 +1,5 @@
+-- What lies between two vertices.
+pub mod Separate
+pub mod Separates
+pub mod Steps
+pub mod Example
