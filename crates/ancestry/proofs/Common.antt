@@ -4,17 +4,17 @@ use mathlib.Core.Path.{_≡_, sym, subst, _∙_}
 use mathlib.Core.Logic.{_≢_, ⊎-elim}
 use mathlib.Core.Bool.{true, false, _||_, true≢false}
 use mathlib.Core.List.{List, List·Memᴰ}
-use Prim.Native.Nat.{ℕ, _≤_, _<_}
+use Prim.Native.Nat.{ℕ, suc, _≤_, _<_}
 use native.Mathlib.Omega.{arith}
 use lib.Dec.{eqb}
 use lib.ListN.{length}
 use borrow.Author.Tests.{eqb-true, eq-eqb}
-use Rattle.game.specs.Table.{member, filtered}
+use Rattle.game.specs.Table.{member}
 use Rattle.game.specs.Game.{absent}
 use Rattle.game.specs.Tree.{ancestors, under}
 use Rattle.game.proofs.Bools.{or-cases, or-left, or-right, bool-iff}
 use Rattle.game.proofs.Tables.{member-in, in-member}
-use Rattle.game.proofs.Lists.{filtered-in, in-filtered, rising-filtered, rising-ext}
+use Rattle.game.proofs.Lists.{Rising, filtered-in, in-filtered, rising-filtered, rising-ext}
 use Rattle.game.proofs.Climbs.{Climbs, top, climbs-le}
 use Rattle.game.proofs.Ancestors.{climbs-ancestor, ancestor-climbs, under-climbs, climbs-under}
 use Rattle.game.proofs.Subtree.{climbs-trans, climbs-antisym, climbs-inside}
@@ -39,8 +39,29 @@ module _ {p : List ℕ} (w : Walkable p) where
   unfolding related
   climbed-related {a} {b} k = or-right (under p a b) (under p b a) (climbs-under (walkable-sound w) k)
 
+-- the common ancestors are the ancestors of both
+pub common-both : (p : List ℕ) (a b : ℕ) {y : ℕ} → List·Memᴰ y (commonAncestors p a b) → List·Memᴰ y (ancestors p a) × List·Memᴰ y (ancestors p b)
+unfolding commonAncestors
+common-both p a b {y} m = let f = filtered-in (λ (z : ℕ). member z (ancestors p b)) (ancestors p a) m in (f .0, member-in y (ancestors p b) (f .1))
+
+pub both-common : (p : List ℕ) (a b : ℕ) {y : ℕ} → List·Memᴰ y (ancestors p a) → List·Memᴰ y (ancestors p b) → List·Memᴰ y (commonAncestors p a b)
+unfolding commonAncestors
+both-common p a b m n = in-filtered (λ (z : ℕ). member z (ancestors p b)) m (in-member n)
+
+-- they rise
+pub common-rising : {p : List ℕ} → Walkable p → (a b : ℕ) → Rising (suc a) (commonAncestors p a b)
+unfolding commonAncestors
+common-rising {p} w a b = rising-filtered (λ (z : ℕ). member z (ancestors p b)) (ancestors-rising (walkable-sound w) (walkable-few w) a)
+
+-- what both of two vertices climb to that are not related
+pub climbs-common : {p : List ℕ} → Walkable p → (a b : ℕ) → related p a b ≡ false → {y : ℕ} → Climbs p y a → Climbs p y b → List·Memᴰ y (commonAncestors p a b)
+climbs-common {p} w a b apart {y} i j =
+    both-common p a b
+    (climbs-ancestor (walkable-sound w) i (λ (e : a ≡ y). true≢false (sym (climbs-related w (rw (← e) at j)) ∙ apart)))
+    (climbs-ancestor (walkable-sound w) j (λ (e : b ≡ y). true≢false (sym (climbed-related w (rw (← e) at i)) ∙ apart)))
+
 module _ {p : List ℕ} (w : Walkable p) {a b r : ℕ} (m : Meets p a b r) (ha : a < length p) (hb : b < length p) where
-  -- what is below absent is a vertex
+  -- a vertex is not absent
   there : {x : ℕ} → x < length p → x ≢ absent
   there h = omega (arith, w .few)
 
@@ -66,26 +87,19 @@ module _ {p : List ℕ} (w : Walkable p) {a b r : ℕ} (m : Meets p a b r) (ha :
 
   -- the common ancestors of two vertices that are not related are the path from where they meet
   pub common-path : related p a b ≡ false → commonAncestors p a b ≡ path p r
-  unfolding commonAncestors
-  common-path apart =
-      rising-ext
-      (rising-filtered (λ (y : ℕ). member y (ancestors p b)) (ancestors-rising (walkable-sound w) (walkable-few w) a))
-      (path-rising (walkable-sound w) (walkable-few w) r)
-      forward backward
+  common-path apart = rising-ext (common-rising w a b) (path-rising (walkable-sound w) (walkable-few w) r) forward backward
     where
-      forward : (z : ℕ) → List·Memᴰ z (filtered (λ (y : ℕ). member y (ancestors p b)) (ancestors p a)) → List·Memᴰ z (path p r)
+      forward : (z : ℕ) → List·Memᴰ z (commonAncestors p a b) → List·Memᴰ z (path p r)
       forward z i =
-          let f = filtered-in (λ (y : ℕ). member y (ancestors p b)) (ancestors p a) i in
+          let f = common-both p a b i in
           let k : Climbs p z a = ancestor-climbs (walkable-few w) (f .0) in
-          let l : Climbs p z r = m .least z k (ancestor-climbs (walkable-few w) (member-in z (ancestors p b) (f .1))) in
+          let l : Climbs p z r = m .least z k (ancestor-climbs (walkable-few w) (f .1)) in
           let h : r ≤ z = climbs-le (walkable-sound w) l in
           let n : z < length p = climbs-inside (walkable-sound w) k ha in
           climbs-path (walkable-sound w) (walkable-few w) (m .inside (there (omega arith))) l
 
-      backward : (z : ℕ) → List·Memᴰ z (path p r) → List·Memᴰ z (filtered (λ (y : ℕ). member y (ancestors p b)) (ancestors p a))
+      backward : (z : ℕ) → List·Memᴰ z (path p r) → List·Memᴰ z (commonAncestors p a b)
       backward z i =
           let f = path-climbs (walkable-sound w) (walkable-few w) i in
           let k = m .both (there (f .0)) in
-          in-filtered (λ (y : ℕ). member y (ancestors p b))
-          (climbs-ancestor (walkable-sound w) (climbs-trans (k .0) (f .1)) (λ (e : a ≡ z). true≢false (sym (climbs-related w (rw (← e) at (climbs-trans (k .1) (f .1)))) ∙ apart)))
-          (in-member (climbs-ancestor (walkable-sound w) (climbs-trans (k .1) (f .1)) (λ (e : b ≡ z). true≢false (sym (climbed-related w (rw (← e) at (climbs-trans (k .0) (f .1)))) ∙ apart))))
+          climbs-common w a b apart (climbs-trans (k .0) (f .1)) (climbs-trans (k .1) (f .1))

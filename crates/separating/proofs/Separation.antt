@@ -1,24 +1,19 @@
 -- What lies between two vertices separates them, of every accepted call.
 -- Assumes nothing.
 use mathlib.Core.Path.{_≡_, refl, sym, ap, subst, _∙_}
-use mathlib.Core.Bool.{false, true≢false}
+use mathlib.Core.Bool.{false}
 use mathlib.Core.List.{List, [], _∷_, List·Memᴰ, List·Memᴰ·head, List·Memᴰ·not-nil}
 use Prim.Native.Nat.{ℕ, zero, suc, _+_, _≤_, _<_}
 use native.Mathlib.Numerals.{add-one}
 use native.Mathlib.Omega.{arith}
 use lib.ListN.{length, getD, take, drop}
 use lib.Seq.{take-append-seam}
-use Rattle.game.specs.Table.{member}
 use Rattle.game.specs.Edge.{Edge, edges}
 use Rattle.game.specs.Game.{absent, forest}
-use Rattle.game.specs.Tree.{ancestors}
 use Rattle.game.specs.Net.{Net, netOf}
 use Rattle.game.specs.Graph.{Proper}
-use Rattle.game.proofs.Tables.{member-in, in-member}
-use Rattle.game.proofs.Lists.{Rising, done, more, filtered-in, in-filtered, rising-filtered}
-use Rattle.game.proofs.Climbs.{Climbs}
-use Rattle.game.proofs.Ancestors.{climbs-ancestor, ancestor-climbs}
-use Rattle.game.proofs.Paths.{ancestors-rising}
+use Rattle.game.proofs.Lists.{Rising, done, more}
+use Rattle.game.proofs.Ancestors.{ancestor-climbs}
 use Rattle.refusal.specs.Refusal.{unless}
 use Rattle.refusal.specs.Verdict.{accepted}
 use Rattle.refusal.proofs.First.{first-none, given-none}
@@ -31,30 +26,12 @@ use Rattle.ancestry.specs.Common.{commonAncestors, related, atFront}
 use Rattle.ancestry.specs.Answer.{lowestOf, separatorOf}
 use Rattle.ancestry.specs.Steps.{Walkable}
 use Rattle.ancestry.proofs.Walk.{walkable-sound, walkable-few}
-use Rattle.ancestry.proofs.Common.{climbs-related, climbed-related}
+use Rattle.ancestry.proofs.Common.{common-both, both-common, common-rising, climbs-common}
 use Rattle.separating.specs.Separate.{SeparateTables, wrongSeparate, readRefusal, grownRefusal, separateRefusal, separateOutcome}
 use Rattle.separating.specs.Separates.{Walk, root, Separates}
 use Rattle.separating.proofs.Refused.{Ready, ready}
 use Rattle.separating.proofs.Walks.{walk-climbs}
 use Rattle.separating.proofs.Roots.{root-climbs, climbs-one-root}
-
--- the common ancestors of two vertices that are not related
-module _ {p : List ℕ} (w : Walkable p) {a b : ℕ} (apart : related p a b ≡ false) where
-  -- are what both climb to
-  climbs-common : {y : ℕ} → Climbs p y a → Climbs p y b → List·Memᴰ y (commonAncestors p a b)
-  unfolding commonAncestors
-  climbs-common {y} i j =
-      in-filtered (λ (z : ℕ). member z (ancestors p b))
-      (climbs-ancestor (walkable-sound w) i (λ (e : a ≡ y). true≢false (sym (climbs-related w (rw (← e) at j)) ∙ apart)))
-      (in-member (climbs-ancestor (walkable-sound w) j (λ (e : b ≡ y). true≢false (sym (climbed-related w (rw (← e) at i)) ∙ apart))))
-
-common-both : (p : List ℕ) (a b : ℕ) {y : ℕ} → List·Memᴰ y (commonAncestors p a b) → List·Memᴰ y (ancestors p a) × List·Memᴰ y (ancestors p b)
-unfolding commonAncestors
-common-both p a b {y} m = let f = filtered-in (λ (z : ℕ). member z (ancestors p b)) (ancestors p a) m in (f .0, member-in y (ancestors p b) (f .1))
-
-both-common : (p : List ℕ) (a b : ℕ) {y : ℕ} → List·Memᴰ y (ancestors p a) → List·Memᴰ y (ancestors p b) → List·Memᴰ y (commonAncestors p a b)
-unfolding commonAncestors
-both-common p a b m n = in-filtered (λ (z : ℕ). member z (ancestors p b)) m (in-member n)
 
 -- a list that rises, entry by entry
 rising-entries : {a : ℕ} {ys : List ℕ} → Rising a ys → (i : ℕ) → i + 1 < length ys → getD ys i 0 < getD ys (i + 1) 0
@@ -88,20 +65,19 @@ empty-list (y ∷ ys) f = absurd (f y (List·Memᴰ·head refl))
 -- in the forest of a graph they separate the two
 module _ {n : ℕ} {es : List Edge} (w : Walkable (forest n es)) (u : n ≤ absent) (proper : Proper n es) {a b : ℕ} (apart : related (forest n es) a b ≡ false) where
   passing : (vs : List ℕ) → Walk es a b vs → (y : ℕ) × List·Memᴰ y vs × List·Memᴰ y (commonAncestors (forest n es) a b)
-  passing vs k = let (y, m, i, j) = walk-climbs u proper k in (y, m, climbs-common w apart i j)
+  passing vs k = let (y, m, i, j) = walk-climbs u proper k in (y, m, climbs-common w a b apart i j)
 
   pub common-separates : Separates (forest n es) es a b (lowestOf (commonAncestors (forest n es) a b)) (commonAncestors (forest n es) a b)
-  unfolding commonAncestors
   common-separates =
       record {
         above = λ y m. common-both (forest n es) a b m;
         all = λ y m k. both-common (forest n es) a b m k;
-        lowest-first = rising-entries (rising-filtered (λ (z : ℕ). member z (ancestors (forest n es) b)) (ancestors-rising (walkable-sound w) (walkable-few w) a));
+        lowest-first = rising-entries (common-rising w a b);
         lowest-listed = lowest-first (commonAncestors (forest n es) a b);
         none-listed = lowest-nothing (commonAncestors (forest n es) a b);
         apart-none = λ d. nothing-lowest (empty-list (commonAncestors (forest n es) a b) (λ y m. d (one y m)));
         none-apart = λ e r. none (lowest-nothing (commonAncestors (forest n es) a b) e) (root (forest n es) a)
-            (climbs-common w apart (root-climbs (walkable-sound w) (walkable-few w) a) (rw (← r) at (root-climbs (walkable-sound w) (walkable-few w) b)));
+            (climbs-common w a b apart (root-climbs (walkable-sound w) (walkable-few w) a) (rw (← r) at (root-climbs (walkable-sound w) (walkable-few w) b)));
         passes = passing;
         no-walk = λ e vs k. none e (passing vs k .0) (passing vs k .2);
       }
