@@ -1,7 +1,7 @@
 -- Tables and nets that pass the test of sameness are one, and a scan decides it.
 -- Assumes nothing.
-use mathlib.Core.Path.{_≡_, refl, ap₂}
-use mathlib.Core.Bool.{true, false, not, false≢true}
+use mathlib.Core.Path.{_≡_, refl, sym, ap, ap₂, _∙_}
+use mathlib.Core.Bool.{Bool, true, false, not, false≢true}
 use mathlib.Core.List.{List, [], _∷_}
 use Prim.Native.Nat.{ℕ, _+_, _≤_, _<_}
 use native.Mathlib.Numerals.{add-one}
@@ -14,7 +14,7 @@ use Rattle.game.specs.Edge.{Edge}
 use Rattle.game.specs.Net.{Net, net, netOf}
 use Rattle.game.proofs.Bools.{and-both, both-and}
 use Rattle.refusal.specs.Refusal.{given}
-use Rattle.refusal.proofs.First.{given-none}
+use Rattle.refusal.proofs.First.{given-true, given-none}
 use Rattle.compare.specs.Compare.{sameTable, sameNet, unlike}
 
 pub same-table : (xs ys : List ℕ) → sameTable xs ys ≡ true → xs ≡ ys
@@ -52,6 +52,15 @@ unfolding unlike
 passed-same of es z =
     let grown : Net = netOf (length (of .parents)) es in
     same-net of grown (not-false (sameNet of grown) (given-none (not (sameNet of grown)) 22 z))
+
+-- what a test that was made tells: the edges are the net's own, or they are refused
+module _ (of : Net) (es : List Edge) {same : Bool} (test : same ≡ sameNet of (netOf (length (of .parents)) es)) where
+  pub found-own : same ≡ true → of ≡ netOf (length (of .parents)) es
+  found-own e = same-net of (netOf (length (of .parents)) es) (sym test ∙ e)
+
+  pub found-other : same ≡ false → unlike of es ≡ 23
+  unfolding unlike
+  found-other e = given-true (not (sameNet of (netOf (length (of .parents)) es))) 23 (ap not (sym test ∙ e))
 
 -- A scan of two tables of one length, at i: what is left decides.
 module _ (xs ys : List ℕ) (i : ℕ) (long : length xs ≡ length ys) where

@@ -1,7 +1,7 @@
 -- The three ways in which Report ends as it has to: refused before the comparison, refused by it, accepted.
 -- Assumes nothing.
 use mathlib.Core.Path.{_≡_, sym, ap, ap₂, _∙_}
-use mathlib.Core.Bool.{Bool, true, false, not}
+use mathlib.Core.Bool.{Bool, true, false}
 use mathlib.Core.List.{List, [], _∷_}
 use Prim.Native.Nat.{ℕ}
 use native.Mathlib.Omega.{arith}
@@ -9,7 +9,7 @@ use lib.ListN.{length}
 use Rattle.game.specs.Edge.{edges}
 use Rattle.game.specs.Net.{Net, netOf, weights}
 use Rattle.refusal.specs.Refusal.{first}
-use Rattle.refusal.proofs.First.{first-pass, first-stop, first-last, unless-refused, unless-accepted, given-true}
+use Rattle.refusal.proofs.First.{first-pass, first-stop, first-last, unless-refused, unless-accepted}
 use Rattle.refusal.proofs.Fault.{faultless-proper}
 use Rattle.growth.specs.Work.{Work, cleared}
 use Rattle.partition.proofs.Refused.{divide-known}
@@ -18,7 +18,7 @@ use Rattle.game.proofs.Weights.{weight-count}
 use Rattle.game.proofs.Tables.{tabulate-ext}
 use Rattle.cost.specs.declared.Totals.{Totals}
 use Rattle.cost.specs.Figures.{totalsOf}
-use Rattle.compare.specs.Compare.{sameNet, unlike}
+use Rattle.compare.specs.Compare.{unlike}
 use Rattle.compare.specs.Steps.{Compared}
 use Rattle.refusal.specs.Verdict.{accepted, refused, judged}
 use Rattle.refusal.specs.Outcome.{ended}
@@ -27,7 +27,7 @@ use Rattle.writing.specs.Written.{Written, figures}
 use Rattle.writing.specs.Steps.{Reportable, Answered}
 use Rattle.early.specs.Early.{earlyRefusal}
 use Rattle.report.specs.Report.{Lent, lent, wrongLent, reportRefusal, reportOutcome}
-use Rattle.compare.proofs.Sameness.{same-net, same-passes}
+use Rattle.compare.proofs.Sameness.{same-passes, found-own, found-other}
 use Rattle.report.proofs.Refused.{ready}
 
 module _ (of : Net) (B k : ℕ) (xs : List ℕ) (was : Lent) where
@@ -36,9 +36,6 @@ module _ (of : Net) (B k : ℕ) (xs : List ℕ) (was : Lent) where
 
   late : ℕ
   late = unlike of (edges xs)
-
-  grown : Net
-  grown = netOf (length (of .parents)) (edges xs)
 
   -- refused before the comparison: the number, and every table as it was
   pub ends-early : {code : ℕ} {wrong : Bool} → code ≡ earlyRefusal of B k xs wrong → wrong ≡ wrongLent of k xs was → (code ≡ 0 → ⊥)
@@ -65,14 +62,14 @@ module _ (of : Net) (B k : ℕ) (xs : List ℕ) (was : Lent) where
     -- refused by the comparison: 23, the comparison tables hold the edges' net, and all but the work tables is as it was
     pub ends-late : {same : Bool} {new : Net} {work : Work} → Compared of (edges xs) (was .work) same new work → same ≡ false
         → ended (refused 23) (lent (was .written) new work) ≡ reportOutcome of B k xs was
-    unfolding reportOutcome reportRefusal early late unlike grown
+    unfolding reportOutcome reportRefusal early late
     ends-late c differs =
         ap₂ ended (sym number)
         ((λ i. lent (sym (unless-refused late (was .written) (figures of B k (edges xs)) some) i) (c .net i) (c .clear differs i))
         ∙ sym (unless-accepted early was _ z))
       where
         is : late ≡ 23
-        is = given-true (not (sameNet of grown)) 23 (ap not (sym (c .answer) ∙ differs))
+        is = found-other of (edges xs) (c .answer) differs
 
         some : late ≡ 0 → ⊥
         some e = omega (arith, is)
@@ -84,7 +81,7 @@ module _ (of : Net) (B k : ℕ) (xs : List ℕ) (was : Lent) where
     -- where the comparison finds the net, it is the net of its edges
     module _ {same : Bool} {new : Net} {work : Work} (c : Compared of (edges xs) (was .work) same new work) (found : same ≡ true) where
       own : of ≡ netOf (length (of .parents)) (edges xs)
-      own = same-net of (netOf (length (of .parents)) (edges xs)) (sym (c .answer) ∙ found)
+      own = found-own of (edges xs) (c .answer) found
 
       weighed : of .weights ≡ weights (length (of .parents)) (edges xs)
       unfolding netOf

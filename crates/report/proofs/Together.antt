@@ -1,28 +1,26 @@
 -- The blocks of every accepted report, laid together again, are the net.
 -- Assumes nothing.
 use mathlib.Core.Path.{_≡_, sym, ap, subst, _∙_}
-use mathlib.Core.Bool.{not}
 use mathlib.Core.List.{List}
 use Prim.Native.Nat.{ℕ, _<_}
 use native.Mathlib.Omega.{arith}
 use lib.ListN.{length}
-use borrow.Author.Tests.{not-false}
 use Rattle.game.specs.Edge.{edges}
 use Rattle.game.specs.Net.{Net, netOf}
 use Rattle.refusal.specs.Verdict.{accepted}
 use Rattle.refusal.proofs.Ends.{accepted-none}
-use Rattle.refusal.proofs.First.{first-none, given-none, unless-accepted}
+use Rattle.refusal.proofs.First.{first-none, unless-accepted}
 use Rattle.refusal.proofs.Fault.{faultless-proper}
 use Rattle.partition.specs.Divide.{divided}
 use Rattle.partition.proofs.Refused.{divide-known}
 use Rattle.cost.specs.declared.Totals.{Totals}
 use Rattle.cost.specs.Laid.{Together}
 use Rattle.cost.proofs.Laid.{blocks-laid-together, block-charges}
-use Rattle.compare.specs.Compare.{sameNet, unlike}
+use Rattle.compare.specs.Compare.{unlike}
 use Rattle.writing.specs.Written.{Written, figures}
 use Rattle.early.specs.Early.{earlyRefusal}
 use Rattle.report.specs.Report.{Lent, wrongLent, reportRefusal, reportOutcome}
-use Rattle.compare.proofs.Sameness.{same-net}
+use Rattle.compare.proofs.Sameness.{passed-same}
 use Rattle.report.proofs.Refused.{ready}
 
 module _ (of : Net) (B k : ℕ) (xs : List ℕ) (was : Lent) {totals : Totals} (answer : reportOutcome of B k xs was .verdict ≡ accepted totals) where
@@ -40,8 +38,7 @@ module _ (of : Net) (B k : ℕ) (xs : List ℕ) (was : Lent) {totals : Totals} (
 
   -- the edges are the net's own
   own : of ≡ netOf (length (of .parents)) (edges xs)
-  unfolding unlike
-  own = same-net of _ (not-false (sameNet of _) (given-none (not (sameNet of _)) 22 (passed .1)))
+  own = passed-same of (edges xs) (passed .1)
 
   -- what is written of the division is the division
   pub written : reportOutcome of B k xs was .tables .written .division ≡ divided of B k

@@ -1,7 +1,7 @@
 -- The ways in which the call ends as it has to: refused by reading alone, refused by the comparison, or as listing ends.
 -- Assumes nothing.
 use mathlib.Core.Path.{_≡_, sym, ap, ap₂, _∙_}
-use mathlib.Core.Bool.{Bool, true, false, not}
+use mathlib.Core.Bool.{Bool, true, false}
 use mathlib.Core.List.{List, [], _∷_}
 use Prim.Native.Nat.{ℕ}
 use native.Mathlib.Omega.{arith}
@@ -11,11 +11,11 @@ use Rattle.game.specs.Net.{Net, netOf}
 use Rattle.refusal.specs.Refusal.{given, first, unless}
 use Rattle.refusal.specs.Verdict.{Verdict, refused, judged}
 use Rattle.refusal.specs.Outcome.{Outcome, ended}
-use Rattle.refusal.proofs.First.{first-pass, first-stop, first-last, unless-refused, unless-accepted, given-true}
+use Rattle.refusal.proofs.First.{first-pass, first-stop, first-last, unless-refused, unless-accepted}
 use Rattle.refusal.proofs.Ends.{judged-refused}
 use Rattle.growth.specs.Work.{Work, cleared}
-use Rattle.compare.specs.Compare.{sameNet, unlike}
-use Rattle.compare.proofs.Sameness.{same-net, same-passes}
+use Rattle.compare.specs.Compare.{unlike}
+use Rattle.compare.proofs.Sameness.{same-passes, found-own, found-other}
 use Rattle.ancestry.specs.declared.Separator.{Separator}
 use Rattle.ancestry.specs.Answer.{separatorOf}
 use Rattle.ancestry.specs.Common.{commonAncestors, related, atFront}
@@ -66,7 +66,7 @@ module _ (of : Net) (a b : ℕ) (xs : List ℕ) (was : SeparateTables) where
     -- refused by the comparison: 23
     pub ends-late : {same : Bool} {new : Net} {work : Work} → Told of (edges xs) (was .work) same new work → same ≡ false
         → ended (refused 23) (separateTables (was .listed) new work) ≡ separateOutcome of a b xs was
-    unfolding late grownRefusal unlike
+    unfolding late grownRefusal
     ends-late c differs =
         grown-end
         (sym (ap (λ (m : ℕ). judged m (separatorOf (commonAncestors (of .parents) a b))) is ∙ judged-refused 23 _ (λ e. omega arith)))
@@ -74,7 +74,7 @@ module _ (of : Net) (a b : ℕ) (xs : List ℕ) (was : SeparateTables) where
         (c .net) (c .clear)
       where
         differ : unlike of (edges xs) ≡ 23
-        differ = given-true (not (sameNet of (netOf (length (of .parents)) (edges xs)))) 23 (ap not (sym (c .answer) ∙ differs))
+        differ = found-other of (edges xs) (c .answer) differs
 
         is : late ≡ 23
         is = first-stop (unlike of (edges xs)) _ (λ e. omega (arith, differ)) ∙ differ
@@ -90,8 +90,5 @@ module _ (of : Net) (a b : ℕ) (xs : List ℕ) (was : SeparateTables) where
         (ap (λ (o : Outcome Separator (List ℕ)). o .tables) e ∙ ap (λ (m : ℕ). unless m (was .listed) (atFront (commonAncestors (of .parents) a b) (was .listed))) (sym is))
         (c .net) (c .clear)
       where
-        own : of ≡ netOf (length (of .parents)) (edges xs)
-        own = same-net of (netOf (length (of .parents)) (edges xs)) (sym (c .answer) ∙ found)
-
         is : late ≡ given (related (of .parents) a b) 31
-        is = first-pass (unlike of (edges xs)) _ (same-passes of (edges xs) own) ∙ first-last (given (related (of .parents) a b) 31)
+        is = first-pass (unlike of (edges xs)) _ (same-passes of (edges xs) (found-own of (edges xs) (c .answer) found)) ∙ first-last (given (related (of .parents) a b) 31)
