@@ -1,6 +1,7 @@
 """The gate. Proves every crate from nothing, tries the must-fail edits and runs the programs (rt ci); builds the library from the proved
-crates and runs the tests from outside (tests/run). These begin as soon as every crate is proved, beside the edits: they write only the
-library and their own files, and rt ci removes target/ at its start alone. The last line is 'N passed, M failed', of both together."""
+crates and runs the tests from outside (tests/run). The library is built as soon as `exports` is proved, beside the programs, and the tests
+begin as soon as every crate is proved, beside the edits: they write only the library and their own files, and rt ci removes target/ at
+its start alone. What the tests need is installed meanwhile. The last line is 'N passed, M failed', of both together."""
 
 import os
 import queue
@@ -13,6 +14,8 @@ from progress import ROOT, Proving, Step, say
 
 # rt starts crates and edits in batches and waits for the slowest of each, so that two processors are kept busy by twice as many
 os.environ.setdefault("RT_JOBS", str(min(8, 2 * (os.cpu_count() or 1))))
+# the prover's allocator keeps what it freed: to hand it back and fault it in again is a tenth of the time of the largest crates
+os.environ.setdefault("MIMALLOC_PURGE_DELAY", "-1")
 
 
 def toolchain():
@@ -28,30 +31,38 @@ def formatted():
 
 
 def run(steps):
-    """Runs both steps and shows what they say; `steps` gets each as it is begun."""
+    """Runs the steps, each as soon as what it needs is there, and shows what they say; `steps` gets each as it is begun."""
     lines = queue.Queue()
     proving = Proving([], with_edits=True)
-    running = steps["rt ci"] = Step(["rt", "ci"], lines)
-    left = 1
-    while left:
+    running = set()
+
+    def begin(name, *command):
+        steps[name] = Step(list(command), lines)
+        running.add(steps[name])
+
+    begin("rt ci", "rt", "ci")
+    begin("tests/install", "tests/install")
+    while running:
         try:
             step, line = lines.get(timeout=1)
         except queue.Empty:
             proving.show_begun()
             continue
         if line is None:
-            left -= 1
-            if step is running:
+            running.remove(step)
+            if step is steps["rt ci"]:
                 proving.end()
+        elif step is steps["rt ci"]:
+            step.last = line
+            proving.line(line)
         else:
             step.last = line
-            if step is running:
-                proving.line(line)
-            else:
-                say(f"tests: {line}")
-        if "tests/run" not in steps and (proving.proved() or running.process.poll() is not None and line is None):
-            steps["tests/run"] = Step(["tests/run"], lines)
-            left += 1
+            say(f"tests: {line}")
+        if "tests/build" not in steps and proving.verdicts.get("exports"):
+            begin("tests/build", "tests/build")
+        preparing = {steps.get("tests/install"), steps.get("tests/build")} & running
+        if "tests/run" not in steps and not preparing and (proving.proved() or steps["rt ci"] not in running):
+            begin("tests/run", "tests/run")
 
 
 def main():
@@ -66,7 +77,7 @@ def main():
         for name, step in steps.items():
             if step.process.returncode not in (0, 1):
                 say(f"{name} ended with status {step.process.returncode}")
-        counts = [step.counts() for step in steps.values()]
+        counts = [steps[name].counts() for name in ("rt ci", "tests/run")]
         passed, failed = sum(count[0] for count in counts), sum(count[1] for count in counts)
     finally:
         for step in steps.values():

@@ -6,8 +6,9 @@ use mathlib.Core.List.{List, _∷_, _++_}
 use Prim.Native.Nat.{ℕ}
 use Rattle.game.specs.Edge.{Edge, _─_}
 use Rattle.sorting.proofs.Values.{values-here, values-other, values-append}
-use Rattle.indexing.specs.Index.{_⟶_, source, target, arcs, run}
-use Rattle.indexing.proofs.Arcs.{arcs-append}
+use Rattle.arcs.specs.Arc.{_⟶_, source, target, arcs}
+use Rattle.indexing.specs.Index.{run}
+use Rattle.arcs.proofs.Arcs.{arcs-append}
 use Rattle.adjacency.specs.Neighbours.{InTwoRuns}
 
 -- a list behind a list adds its run behind the other's

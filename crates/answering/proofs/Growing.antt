@@ -19,7 +19,8 @@ use Rattle.moving.specs.declared.Moved.{Moved}
 use Rattle.growth.specs.Work.{Work, workOf, NetWithWork, withWork}
 use Rattle.starting.specs.Start.{startOutcome}
 use Rattle.adding.specs.Add.{addOutcome}
-use Rattle.relabel.specs.Relabel.{relabelled, inverseOf, RelabelTables, relabelTables, relabelRefusal, relabelOutcome}
+use Rattle.permutation.specs.Order.{inverseOf}
+use Rattle.relabel.specs.Relabel.{relabelled, RelabelTables, relabelTables, relabelRefusal, relabelOutcome}
 use Rattle.relabel.proofs.Relabelled.{relabelled-length, relabelled-faultless}
 use Rattle.forest.proofs.FirstList.{FirstList, first-net}
 use Rattle.files.specs.Files.{vertexCapacity}

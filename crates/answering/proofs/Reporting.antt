@@ -32,7 +32,8 @@ use Rattle.early.specs.Early.{earlyRefusal}
 use Rattle.report.specs.Report.{Lent, wrongFigures, wrongLent, reportRefusal, reportOutcome}
 use Rattle.compare.proofs.Sameness.{same-passes}
 use Rattle.printing.specs.Lines.{rankText, linesBelow, totalsText}
-use Rattle.printing.specs.Steps.{Columns, answerText, lineRoom, totalsRoom}
+use Rattle.fields.specs.Steps.{lineRoom}
+use Rattle.printing.specs.Steps.{Columns, answerText, totalsRoom}
 use Rattle.files.specs.Files.{edgeCapacity}
 use Rattle.answering.specs.Text.{reportText, decidedText}
 use Rattle.answering.specs.Steps.{Ready, netText, textRoom}

@@ -8,9 +8,11 @@ use lib.ListN.{length}
 use Rattle.game.specs.Edge.{Edge, edges}
 use Rattle.game.specs.Net.{Net, netOf}
 use Rattle.refusal.specs.Refusal.{given, firstFault}
-use Rattle.relabel.specs.Relabel.{badOrder, relabelled}
+use Rattle.permutation.specs.Order.{badOrder}
+use Rattle.relabel.specs.Relabel.{relabelled}
 use Rattle.partition.specs.Divide.{badLimits, tooHeavy}
-use Rattle.printing.specs.Steps.{lineRoom, totalsRoom}
+use Rattle.fields.specs.Steps.{lineRoom}
+use Rattle.printing.specs.Steps.{totalsRoom}
 use Rattle.files.specs.Files.{vertexCapacity, edgeCapacity}
 use Rattle.answering.specs.Text.{reportText, decidedText}
 

@@ -17,7 +17,7 @@ ghost use Rattle.relabel.specs.Relabel.{relabelled};
 ghost use Rattle.answering.specs.Steps.{Runnable, GrowRoom, Grown, Ready, netText, textRoom};
 
 // The most blocks of a division.
-const BLOCKS: usize = partition::MAX_BLOCKS as usize;
+const BLOCKS: usize = packing::MAX_BLOCKS as usize;
 
 // Vertices and edges together.
 const BOTH: usize = VERTICES + EDGES;

@@ -13,7 +13,7 @@ use Rattle.trimming.specs.Cut.{cut, top}
 use Rattle.packing.specs.Pack.{blockOf}
 use Rattle.partition.specs.Divide.{divided}
 use Rattle.packing.proofs.BlockLoads.{block-inside}
-use Rattle.cost.specs.Figures.{edgeBlock}
+use Rattle.meeting.specs.BlockCount.{edgeBlock}
 
 module _ (net : Net) (B k : ℕ) where
   pub cuts : ℕ → Bool

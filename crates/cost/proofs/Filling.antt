@@ -15,7 +15,7 @@ use Rattle.game.proofs.Edges.{edges-drop, edges-end, edges-length}
 use Rattle.refusal.specs.Refusal.{fault, firstFault}
 use Rattle.refusal.proofs.First.{first-none, first-last}
 use Rattle.refusal.proofs.Fault.{faultless}
-use Rattle.cost.specs.Figures.{edgeBlock, edgeBlocks}
+use Rattle.meeting.specs.BlockCount.{edgeBlock, edgeBlocks}
 
 -- the first i edges have their blocks; the list is read at `at`
 pub record FillTurn (xs block out : List ℕ) (i at : ℕ) : Type 0 where

@@ -39,7 +39,7 @@ use Rattle.trimming.specs.Steps.{Divisible}
 use Rattle.trimming.proofs.Lists.{stretch, stretch-in, sum-agree}
 use Rattle.groups.proofs.Sums.{only, total-filtered, total as sumOver}
 use Rattle.partition.proofs.Laws.{block-load}
-use Rattle.cost.specs.Figures.{edgeBlock}
+use Rattle.meeting.specs.BlockCount.{edgeBlock}
 use Rattle.cost.specs.Laid.{edgesOf, Lot, LotOf, Lots, none, more, Laid, after, started, grownLot, laid}
 use Rattle.cost.proofs.Dealt.{together, part, part-proper, dealt-net, dealt-charges, part-weights}
 use Rattle.cost.proofs.Divided.{block-below}

@@ -1,6 +1,4 @@
 -- Laws of the figures, by subject. Nothing here needs to be believed: it is all proved.
-pub mod Sums
-pub mod Blocks
 pub mod Divided
 pub mod VolumeBound
 pub mod Dealt

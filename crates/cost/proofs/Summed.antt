@@ -10,7 +10,8 @@ use Rattle.game.specs.Edge.{Edge}
 use Rattle.game.specs.Net.{reach}
 use Rattle.game.proofs.Tables.{tabulate-length, tabulate-entry, tabulate-ext}
 use Rattle.summing.specs.Steps.{cutReach, boundTerm, boundBy, volumeTerm, volumeBy}
-use Rattle.cost.specs.Figures.{blockCount, isCut, bound, volume}
+use Rattle.meeting.specs.BlockCount.{blockCount}
+use Rattle.cost.specs.Figures.{isCut, bound, volume}
 
 -- the bound of the tables is the bound
 pub bound-by : (p : List ℕ) (es : List Edge) (top : List ℕ) {reaches : List ℕ} → reaches ≡ tabulate (length p) (reach p es) → boundBy p top reaches ≡ bound p es top

@@ -35,10 +35,11 @@ use Rattle.trimming.proofs.Lists.{stretch, stretch-in, in-stretch, sum-entry-in
 use Rattle.groups.proofs.Sums.{only, total, total-add, total-swap}
 use Rattle.groups.proofs.Groups.{top-or, top-cut, top-of, top-between}
 use Rattle.reach.proofs.Higher.{linked-enters}
-use Rattle.cost.specs.Figures.{blocksAt, different, blockCount, isCut, bound, volume, boundOf, volumeOf}
-use Rattle.cost.proofs.Blocks.{block-at}
+use Rattle.meeting.specs.BlockCount.{blocksAt, different, blockCount}
+use Rattle.cost.specs.Figures.{isCut, bound, volume, boundOf, volumeOf}
+use Rattle.meeting.proofs.Blocks.{block-at}
 use Rattle.cost.proofs.Divided.{cuts, packed, divided-top, divided-block}
-use Rattle.cost.proofs.Sums.{table-total, count-total, total-le, total-one, members-count}
+use Rattle.meeting.proofs.Sums.{table-total, count-total, total-le, total-one, members-count}
 
 -- every vertex is under the top of its group
 under-top : (p : List ℕ) (cuts : ℕ → Bool) (x : ℕ) → under p (top p cuts x) x ≡ true

@@ -1,48 +1,24 @@
 -- The figures of a report: what a division of a net costs the blocks that share its vertices.
 --
--- Document 01, Report: "A tie belongs to the block of its lower end. It writes each tie's block, each rank's reach and its block
--- count (different blocks among its ties), and answers bound, the sum of the reaches of cut marks, and volume, the sum of (block
--- count − 1) over marks with a tie."
+-- Document 01, Report: it "answers bound, the sum of the reaches of cut marks, and volume, the sum of (block count − 1) over marks
+-- with a tie."
 -- All are defined over tables: parents p, the edges es, the tops of the groups, the block of each vertex, and the number k of blocks.
 -- A tie is an edge here; the volume is the communication volume of the edge partition.
 -- Assumes nothing.
-use mathlib.Core.Bool.{Bool, not, _&&_, _||_, cond}
-use mathlib.Core.List.{List, map}
+use mathlib.Core.Bool.{Bool, not, _&&_, cond}
+use mathlib.Core.List.{List}
 use Prim.Native.Nat.{ℕ, _-_}
 use lib.Dec.{eqb}
 use lib.ListN.{length, getD}
-use Rattle.game.specs.Table.{tabulate, sum, member, count, filtered}
-use Rattle.game.specs.Edge.{Edge, _─_}
+use Rattle.game.specs.Table.{tabulate, sum}
+use Rattle.game.specs.Edge.{Edge}
 use Rattle.game.specs.Game.{absent}
-use Rattle.game.specs.Net.{Net, total, owner, reach}
+use Rattle.game.specs.Net.{Net, total, reach}
 use Rattle.partition.specs.Divide.{divided}
+use Rattle.meeting.specs.BlockCount.{blockCount}
 use Rattle.sharing.specs.declared.Share.{Share}
 use Rattle.sharing.specs.Share.{evenShare}
 use Rattle.cost.specs.declared.Totals.{Totals}
-
--- "A tie belongs to the block of its lower end": of the vertex that it is charged to
-unfoldable pub edgeBlock : List ℕ → Edge → ℕ
-unfolding owner
-edgeBlock block e = getD block (owner e) 0
-
-unfoldable pub edgeBlocks : List ℕ → List Edge → List ℕ
-edgeBlocks block es = map (edgeBlock block) es
-
--- x is an end of the edge
-unfoldable pub touches : ℕ → Edge → Bool
-touches x (a ─ b) = eqb a x || eqb b x
-
--- the blocks of the edges of x, in the order of the list
-unfoldable pub blocksAt : List ℕ → List Edge → ℕ → List ℕ
-blocksAt block es x = edgeBlocks block (filtered (touches x) es)
-
--- how many different numbers below k a list has
-unfoldable pub different : ℕ → List ℕ → ℕ
-different k bs = count (λ (j : ℕ). member j bs) (tabulate k (λ (j : ℕ). j))
-
--- "its block count (different blocks among its ties)"
-unfoldable pub blockCount : ℕ → List ℕ → List Edge → ℕ → ℕ
-blockCount k block es x = different k (blocksAt block es x)
 
 -- a cut mark: the top of its group, although it has a parent
 unfoldable pub isCut : List ℕ → List ℕ → ℕ → Bool

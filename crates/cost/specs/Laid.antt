@@ -21,7 +21,7 @@ use Rattle.starting.specs.Start.{startOutcome}
 use Rattle.adding.specs.Add.{addOutcome}
 use Rattle.joining.specs.Join.{joinOutcome}
 use Rattle.partition.specs.Divide.{DivisionTables}
-use Rattle.cost.specs.Figures.{edgeBlock}
+use Rattle.meeting.specs.BlockCount.{edgeBlock}
 
 -- the edges of block j
 unfoldable pub edgesOf : List ℕ → List Edge → ℕ → List Edge

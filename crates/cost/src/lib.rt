@@ -6,7 +6,7 @@ ghost use mathlib.Core.Path.{_≡_};
 ghost use lib.ListN.{length};
 ghost use Rattle.game.specs.Edge.{edges as edgesOf};
 ghost use Rattle.refusal.specs.Refusal.{firstFault};
-ghost use Rattle.cost.specs.Figures.{edgeBlocks};
+ghost use Rattle.meeting.specs.BlockCount.{edgeBlocks};
 ghost use Rattle.cost.specs.Steps.{ReportTables, summed};
 
 // What a report answers of a division: the bound and the volume of communication, and the even share of a block.
@@ -14,6 +14,12 @@ pub struct Totals {
     pub bound: u64,
     pub volume: u64,
     pub share: Share,
+}
+
+// What Report answers: the totals of the division, or the number of document 01's table for which it was refused.
+pub enum ReportAnswer {
+    Accepted(Totals),
+    Refused(u32),
 }
 
 // Sums the tables of a report up.

@@ -1,2 +1,3 @@
 -- The early refusals of a report.
 pub mod Early
+pub mod Steps

@@ -6,9 +6,10 @@ ghost use lib.ListN.{length};
 ghost use Rattle.game.specs.Net.{net};
 ghost use Rattle.refusal.specs.Refusal.{wrongLength};
 ghost use Rattle.early.specs.Early.{earlyRefusal};
+ghost use Rattle.early.specs.Steps.{wrongLengths};
 
 // Whether one of the tables that a division does not know has another length than it needs: n entries for the vertices, m for the edges.
-pub fn wrong_figures(
+fn wrong_figures(
     n: usize,
     m: usize,
     edge_blocks: usize,
@@ -19,6 +20,52 @@ pub fn wrong_figures(
     ensures { λ r. ⌜ r ≡ (wrongLength «edge_blocks» m || wrongLength reach n || wrongLength «block_count» n || wrongLength «edges_taken» n) ⌝ }
 {
     (edge_blocks != m) | (reach != n) | (block_count != n) | (edges_taken != n)
+}
+
+// Whether a table of the net or one that is lent for a report, given by its length, or the list of edges is not as long as it has to be.
+pub fn wrong_lengths(
+    blocks: u32,
+    parents: &[u32],
+    weights: &[u32],
+    edges: &[u32],
+    carried: usize,
+    top: usize,
+    block: usize,
+    block_loads: usize,
+    edge_blocks: usize,
+    reach: usize,
+    block_count: usize,
+    edges_taken: usize,
+    compared_parents: usize,
+    compared_weights: usize,
+    ends: usize,
+    jump: usize,
+    lower: usize,
+) -> bool
+    ensures { λ r. ⌜ r ≡ wrongLengths blocks (now (parents .entry)) (now (weights .entry)) (now (edges .entry)) carried top block «block_loads» «edge_blocks» reach «block_count» «edges_taken» «compared_parents» «compared_weights» ends jump lower ⌝ }
+{
+    let n = parents.len();
+    let m = edges.len() / refusal::STRIDE;
+    partition::wrong_tables(
+        n,
+        table::wide(blocks),
+        weights.len(),
+        carried,
+        top,
+        block,
+        block_loads,
+    )
+        | wrong_figures(n, m, edge_blocks, reach, block_count, edges_taken)
+        | compare::wrong_compared(
+            n,
+            n + m,
+            compared_parents,
+            compared_weights,
+            ends,
+            jump,
+            lower,
+        )
+        | (edges.len() % refusal::STRIDE != 0)
 }
 
 // The number for which Report is refused before anything is compared, or 0. Whether a length is wrong was found out before.

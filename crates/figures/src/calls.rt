@@ -1,8 +1,8 @@
 // A function for each call: it reads the tables of a case, lends them, and writes what the call answers and leaves. Of a table that a
 // call only writes the case has the size; it holds nines before the call.
+use cost::ReportAnswer;
 use cost::Totals;
 use libc::STDOUT_FILENO;
-use report::ReportAnswer;
 use script::MOST;
 use script::count;
 use script::fill;

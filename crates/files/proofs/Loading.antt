@@ -14,7 +14,7 @@ use Rattle.game.specs.Edge.{edges}
 use Rattle.game.proofs.Bools.{or-neither}
 use Rattle.refusal.specs.Refusal.{given, first, firstFault}
 use Rattle.refusal.proofs.First.{first-none, first-pass, first-end, given-none, length-right}
-use Rattle.relabel.specs.Relabel.{badOrder}
+use Rattle.permutation.specs.Order.{badOrder}
 use Rattle.partition.specs.Divide.{badLimits}
 use Rattle.words.proofs.Bytes.{words-length}
 use Rattle.files.specs.Files.{Files, vertexCount, edgeCount, order, edgeList, limit, blocks, vertexCapacity, edgeCapacity}

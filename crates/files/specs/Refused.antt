@@ -11,7 +11,7 @@ use lib.Dec.{eqb, ltb}
 use lib.ListN.{length}
 use Rattle.game.specs.Edge.{edges}
 use Rattle.refusal.specs.Refusal.{given, first, wrongLength, firstFault}
-use Rattle.relabel.specs.Relabel.{badOrder}
+use Rattle.permutation.specs.Order.{badOrder}
 use Rattle.partition.specs.Divide.{badLimits}
 use Rattle.files.specs.Files.{Files, vertexCount, edgeCount, order, edgeList, limit, blocks, vertexCapacity, edgeCapacity}
 

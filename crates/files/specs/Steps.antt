@@ -7,7 +7,7 @@ use lib.Dec.{eqb}
 use lib.ListN.{length, take}
 use Rattle.game.specs.Edge.{edges}
 use Rattle.refusal.specs.Refusal.{given, first, firstFault}
-use Rattle.relabel.specs.Relabel.{badOrder}
+use Rattle.permutation.specs.Order.{badOrder}
 use Rattle.partition.specs.Divide.{badLimits}
 use Rattle.files.specs.Files.{Files, vertexCount, order, edgeList, limit, blocks, edgeCapacity}
 use Rattle.files.specs.Refused.{tooMany, notRecords, fileRefusal}

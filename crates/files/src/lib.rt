@@ -81,7 +81,7 @@ fn content_refusal(order: &[u32], edges: &[u32], limit: u32, blocks: u32) -> u32
     requires { ⌜ length (now order) ≤ vertexCapacity ⌝ }
     ensures { λ r. ⌜ r ≡ contentRefusal (now (order .entry)) (now (edges .entry)) limit blocks ⌝ }
 {
-    if relabel::bad_order(order) {
+    if permutation::bad_order(order) {
         return 3;
     }
     let limits = limit_refusal(limit, blocks);

@@ -3,8 +3,10 @@
 -- Document 01: "A tie is an unordered pair of two ranks. Ties may repeat. A tie list is a list of ranks, two to a tie."
 -- Here a tie is an edge. The data keeps the ends in the order in which they were written; no definition looks at that order.
 -- Assumes nothing.
+use mathlib.Core.Bool.{Bool, _||_}
 use mathlib.Core.List.{List, [], _∷_}
 use Prim.Native.Nat.{ℕ, min, max}
+use lib.Dec.{eqb}
 
 infix 60 _─_
 -- a tie: an edge between two vertices
@@ -21,6 +23,10 @@ upper (a ─ b) = max a b
 -- the same edge, written the other way round
 unfoldable pub turn : Edge → Edge
 turn (a ─ b) = b ─ a
+
+-- x is an end of the edge
+unfoldable pub touches : ℕ → Edge → Bool
+touches x (a ─ b) = eqb a x || eqb b x
 
 -- the numbers to an edge in a flat list
 abbrev pub stride : ℕ

@@ -9,9 +9,9 @@ use Rattle.moving.specs.declared.GrowthAnswer.the-variants as growth
 use Rattle.moving.specs.Moved.{rankOf}
 use Rattle.moving.specs.Answer.{verdict as growthVerdict}
 use Rattle.cost.specs.declared.Totals.{Totals}
-use Rattle.report.specs.declared.ReportAnswer.{ReportAnswer}
-use Rattle.report.specs.declared.ReportAnswer.the-variants as report
-use Rattle.report.specs.Answer.{verdict as reportVerdict}
+use Rattle.cost.specs.declared.ReportAnswer.{ReportAnswer}
+use Rattle.cost.specs.declared.ReportAnswer.the-variants as report
+use Rattle.cost.specs.Answer.{verdict as reportVerdict}
 use Rattle.ancestry.specs.declared.Separator.{Separator}
 use Rattle.ancestry.specs.declared.SeparatorAnswer.{SeparatorAnswer}
 use Rattle.ancestry.specs.declared.SeparatorAnswer.the-variants as separator

@@ -1,14 +1,14 @@
 // A call's answer as C takes it: the number, 0 if it was accepted, is answered, and the values go to cells, which a refusal leaves as they
 // were.
 use ancestry::SeparatorAnswer;
+use cost::ReportAnswer;
 use moving::GrowthAnswer;
 use querying::Place;
-use report::ReportAnswer;
 ghost use mathlib.Core.Path.{_≡_};
 ghost use Rattle.refusal.specs.Verdict.{number};
 ghost use Rattle.moving.specs.Moved.{rankOf};
 ghost use Rattle.moving.specs.Answer.{verdict as growthVerdict};
-ghost use Rattle.report.specs.Answer.{verdict as reportVerdict};
+ghost use Rattle.cost.specs.Answer.{verdict as reportVerdict};
 ghost use Rattle.querying.specs.Query.{place};
 ghost use Rattle.ancestry.specs.Answer.{verdict as separatorVerdict};
 ghost use Rattle.handing.specs.Returned.{told, cells, cellsOf, separatorCells, separatorCellsOf};

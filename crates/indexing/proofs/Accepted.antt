@@ -14,7 +14,7 @@ use Rattle.refusal.proofs.First.{first-none, given-none, good-count, length-rig
 use Rattle.refusal.proofs.Fault.{faultless-proper}
 use Rattle.indexing.specs.Index.{Index, vertices}
 use Rattle.indexing.specs.Build.{indexRefusal}
-use Rattle.indexing.specs.Steps.{Indexable}
+use Rattle.arcs.specs.Steps.{Indexable}
 
 pub record Accepted (t : Index) (old added : List ℕ) : Type 0 where
   pub count : badCount (vertices t) ≡ false

@@ -14,8 +14,9 @@ use Rattle.sorting.specs.Sorted.{keysBelow, Sorted}
 use Rattle.sorting.proofs.Keys.{below-zero, below-suc, below-all}
 use Rattle.sorting.proofs.Values.{values-length}
 use Rattle.sorting.proofs.Laid.{sorted-ends, sorted-laid}
-use Rattle.indexing.specs.Index.{source, target, arcs, run, runs, offsets, index, indexOf}
-use Rattle.indexing.proofs.Arcs.{arcs-length, arcs-keyed}
+use Rattle.arcs.specs.Arc.{source, target, arcs}
+use Rattle.indexing.specs.Index.{run, runs, offsets, index, indexOf}
+use Rattle.arcs.proofs.Arcs.{arcs-length, arcs-keyed}
 
 -- the number of arcs that leave a vertex below v
 abbrev pub leaving : List Edge → ℕ → ℕ

@@ -1,6 +1,4 @@
 -- Laws by subject.
 pub mod Refused
-pub mod Arcs
-pub mod Sorting
 pub mod Laid
 pub mod Accepted

@@ -5,7 +5,8 @@ use mathlib.Core.List.{List, [], _∷_, flatten}
 use Rattle.game.specs.Table.{tabulate}
 use Rattle.game.specs.Edge.{Edge, _─_}
 use Rattle.sorting.specs.Keyed.{valuesAt}
-use Rattle.indexing.specs.Index.{source, target, arcs, run, runs, offsets, index, indexOf}
+use Rattle.arcs.specs.Arc.{source, target, arcs}
+use Rattle.indexing.specs.Index.{run, runs, offsets, index, indexOf}
 
 abbrev pub fan : List Edge
 fan = (0 ─ 1) ∷ (2 ─ 0) ∷ (0 ─ 3) ∷ (1 ─ 0) ∷ []

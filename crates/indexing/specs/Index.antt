@@ -7,24 +7,9 @@ use mathlib.Core.List.{List, [], _∷_, map, flatten}
 use Prim.Native.Nat.{ℕ, _+_, _-_}
 use lib.ListN.{length}
 use Rattle.game.specs.Table.{tabulate}
-use Rattle.game.specs.Edge.{Edge, _─_}
+use Rattle.game.specs.Edge.{Edge}
 use Rattle.sorting.specs.Keyed.{valuesAt}
-
-infix 60 _⟶_
--- an edge seen from one of its ends: from there to the neighbour at the other
-pub data Arc : Type 0 where
-  _⟶_ : ℕ → ℕ → Arc
-
-unfoldable pub source : Arc → ℕ
-source (a ⟶ b) = a
-
-unfoldable pub target : Arc → ℕ
-target (a ⟶ b) = b
-
--- an edge is seen from both ends
-unfoldable pub arcs : List Edge → List Arc
-arcs [] = []
-arcs ((a ─ b) ∷ es) = (a ⟶ b) ∷ (b ⟶ a) ∷ arcs es
+use Rattle.arcs.specs.Arc.{source, target, arcs}
 
 -- the run of v: "its neighbours in list order, repeats included"
 unfoldable pub run : List Edge → ℕ → List ℕ

@@ -2,4 +2,3 @@
 pub mod Index
 pub mod Build
 pub mod Example
-pub mod Steps

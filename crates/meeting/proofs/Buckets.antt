@@ -25,7 +25,7 @@ part-entry : (f t i : ℕ) (l : List ℕ) → i < t - f → getD (part f t l) i 
 part-entry f t i l h = getD-take (t - f) (drop f l) i 0 h ∙ getD-drop f l i 0
 
 -- the vertices below y are counted
-pub record CountTurn (k : ℕ) (ends lower weights block counts taken pending stamps : List ℕ) (at y : ℕ) : Type 0 where
+pub record CountTurn (k : ℕ) (ends lower upward block counts taken pending stamps : List ℕ) (at y : ℕ) : Type 0 where
   pub within : y ≤ length ends
   pub start : at ≡ begin ends y
   pub counts-long : length counts ≡ length ends
@@ -33,10 +33,10 @@ pub record CountTurn (k : ℕ) (ends lower weights block counts taken pending st
   pub pending-long : length pending ≡ length ends
   pub all : length stamps ≡ k
   pub fresh : Fresh stamps (y + 1)
-  pub each : (x : ℕ) → x < y → CountedAt k block x (getD weights x 0) (bucketOf ends lower x) (getD counts x 0) (getD taken x 0) (getD pending x 0)
+  pub each : (x : ℕ) → x < y → CountedAt k block x (getD upward x 0) (bucketOf ends lower x) (getD counts x 0) (getD taken x 0) (getD pending x 0)
 
-module _ {ends lower weights block : List ℕ} {k : ℕ} {counts₀ taken₀ pending₀ stamps₀ : List ℕ} (b : Bucketed ends lower weights block k counts₀ taken₀ pending₀ stamps₀) where
-  pub turn-start : CountTurn k ends lower weights block counts₀ taken₀ pending₀ stamps₀ 0 0
+module _ {ends lower upward block : List ℕ} {k : ℕ} {counts₀ taken₀ pending₀ stamps₀ : List ℕ} (b : Bucketed ends lower upward block k counts₀ taken₀ pending₀ stamps₀) where
+  pub turn-start : CountTurn k ends lower upward block counts₀ taken₀ pending₀ stamps₀ 0 0
   unfolding begin
   turn-start = record {
     within = omega arith;
@@ -49,7 +49,7 @@ module _ {ends lower weights block : List ℕ} {k : ℕ} {counts₀ taken₀ pen
     each = λ x h. absurd (omega arith);
   }
 
-  module _ {counts taken pending stamps : List ℕ} {at y : ℕ} (t : CountTurn k ends lower weights block counts taken pending stamps at y) (h : y < length ends)
+  module _ {counts taken pending stamps : List ℕ} {at y : ℕ} (t : CountTurn k ends lower upward block counts taken pending stamps at y) (h : y < length ends)
       {end : ℕ} (e : end ≡ getD ends y 0) where
     pub turn-order : at ≤ end
     turn-order = omega (arith, t .start, b .buckets .rising y h)
@@ -73,23 +73,23 @@ module _ {ends lower weights block : List ℕ} {k : ℕ} {counts₀ taken₀ pen
       fresh = t .fresh;
     }
 
-    module _ {stamps′ : List ℕ} {r : Met} (s : Counts k block y (getD weights y 0) (part at end lower) stamps′ r) where
+    module _ {stamps′ : List ℕ} {r : Met} (s : Counts k block y (getD upward y 0) (part at end lower) stamps′ r) where
       pub turn-read : r .read ≤ maxEdges
       turn-read = omega (arith, s .found .within, part-length at end lower turn-room, turn-short)
 
-      counted-here : {u v : ℕ} → known u v ≡ knownAt k (getD weights y 0) (end - at) (r .count) (r .read)
-          → CountedAt k block y (getD weights y 0) (bucketOf ends lower y) (r .count) u v
+      counted-here : {u v : ℕ} → known u v ≡ knownAt k (getD upward y 0) (end - at) (r .count) (r .read)
+          → CountedAt k block y (getD upward y 0) (bucketOf ends lower y) (r .count) u v
       unfolding bucketOf
       counted-here {u} {v} f =
-          subst (λ (l : List ℕ). CountedAt k block y (getD weights y 0) l (r .count) u v) (λ i. part (t .start i) (e i) lower)
+          subst (λ (l : List ℕ). CountedAt k block y (getD upward y 0) l (r .count) u v) (λ i. part (t .start i) (e i) lower)
           (record {
             read = r .read;
             met = s .found;
-            so-known = f ∙ ap (λ (m : ℕ). knownAt k (getD weights y 0) m (r .count) (r .read)) (sym (part-length at end lower turn-room));
+            so-known = f ∙ ap (λ (m : ℕ). knownAt k (getD upward y 0) m (r .count) (r .read)) (sym (part-length at end lower turn-room));
           })
 
-      pub turn-step : length stamps′ ≡ length stamps → {u v : ℕ} → known u v ≡ knownAt k (getD weights y 0) (end - at) (r .count) (r .read)
-          → CountTurn k ends lower weights block (set counts y (r .count)) (set taken y u) (set pending y v) stamps′ end (y + 1)
+      pub turn-step : length stamps′ ≡ length stamps → {u v : ℕ} → known u v ≡ knownAt k (getD upward y 0) (end - at) (r .count) (r .read)
+          → CountTurn k ends lower upward block (set counts y (r .count)) (set taken y u) (set pending y v) stamps′ end (y + 1)
       unfolding begin
       turn-step l {u} {v} f = record {
         within = omega arith;
@@ -105,18 +105,18 @@ module _ {ends lower weights block : List ℕ} {k : ℕ} {counts₀ taken₀ pen
           next : getD ends y 0 ≡ begin ends (y + 1)
           next = rw add-one refl
 
-          here : (x : ℕ) → x ≡ y → CountedAt k block x (getD weights x 0) (bucketOf ends lower x) (getD (set counts y (r .count)) x 0) (getD (set taken y u) x 0) (getD (set pending y v) x 0)
+          here : (x : ℕ) → x ≡ y → CountedAt k block x (getD upward x 0) (bucketOf ends lower x) (getD (set counts y (r .count)) x 0) (getD (set taken y u) x 0) (getD (set pending y v) x 0)
           here x d =
               rw (d, getD-set-same counts y (r .count) 0 (omega (arith, t .counts-long)), getD-set-same taken y u 0 (omega (arith, t .taken-long)), getD-set-same pending y v 0 (omega (arith, t .pending-long)))
               (counted-here f)
 
-          other : (x : ℕ) → x < y + 1 → x ≢ y → CountedAt k block x (getD weights x 0) (bucketOf ends lower x) (getD (set counts y (r .count)) x 0) (getD (set taken y u) x 0) (getD (set pending y v) x 0)
+          other : (x : ℕ) → x < y + 1 → x ≢ y → CountedAt k block x (getD upward x 0) (bucketOf ends lower x) (getD (set counts y (r .count)) x 0) (getD (set taken y u) x 0) (getD (set pending y v) x 0)
           other x i d =
               rw (getD-set-other counts y x (r .count) 0 d, getD-set-other taken y x u 0 d, getD-set-other pending y x v 0 d) (t .each x (below i d))
             where
               below : x < y + 1 → (x ≡ y → ⊥) → x < y
               below i d = omega arith
 
-pub turn-end : {k : ℕ} {ends lower weights block counts taken pending stamps : List ℕ} {at y : ℕ}
-    → CountTurn k ends lower weights block counts taken pending stamps at y → length ends ≤ y → Counted k ends lower weights block counts taken pending
+pub turn-end : {k : ℕ} {ends lower upward block counts taken pending stamps : List ℕ} {at y : ℕ}
+    → CountTurn k ends lower upward block counts taken pending stamps at y → length ends ≤ y → Counted k ends lower upward block counts taken pending
 turn-end t h = record { each = λ x l. t .each x (omega arith) }

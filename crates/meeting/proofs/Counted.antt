@@ -1,7 +1,7 @@
 -- What the count of its bucket says of a vertex: its block count, and how many of its edges that takes, or what it waits for.
 -- Assumes nothing.
 use mathlib.Core.Path.{_≡_, refl, sym, ap, subst, _∙_}
-use mathlib.Core.Logic.{_≢_, _⊎_, inl, ⊎-elim, by-cases}
+use mathlib.Core.Logic.{_≢_, inl, ⊎-elim, by-cases}
 use mathlib.Core.Bool.{false}
 use mathlib.Core.List.{List, [], _∷_, _++_, map, List·Memᴰ, List·Memᴰ·head, List·Memᴰ·append-cases, Memᴰ·append-left, Memᴰ·append-right}
 use Prim.Native.Nat.{ℕ, zero, suc, _+_, _≤_, _<_}
@@ -14,17 +14,19 @@ use borrow.Author.Tests.{eq-eqb, ne-eqb}
 use Rattle.game.specs.Table.{member}
 use Rattle.game.specs.Edge.{Edge}
 use Rattle.game.specs.Graph.{Proper}
-use Rattle.game.specs.Net.{weight}
 use Rattle.bucket.specs.Filed.{lowerEnds}
-use Rattle.cost.specs.Figures.{different, blocksAt, blockCount}
-use Rattle.cost.proofs.Blocks.{block-at}
+use Rattle.slots.specs.Given.{lowerCount}
+use Rattle.meeting.specs.BlockCount.{different, blocksAt, blockCount}
+use Rattle.meeting.proofs.Blocks.{block-at}
 use Rattle.meeting.specs.Taken.{takenAfter, edgesTaken}
 use Rattle.meeting.specs.declared.counting.Known.{Known}
-use Rattle.meeting.specs.Steps.{ownBlock, metBlocks, MetAt, CountedAt, unmet, knownAt, waits}
+use Rattle.waiting.proofs.Coming.{waits-none}
+use Rattle.waiting.specs.Steps.{unmet, waits}
+use Rattle.meeting.specs.Steps.{ownBlock, metBlocks, MetAt, CountedAt, knownAt}
 use Rattle.meeting.proofs.Different.{different-same, Full, full-within, full-different, different-full, full-met, fewer-open}
 use Rattle.meeting.proofs.Taken.{take-in, Ends, taken-ends, ends-once, nothing-open}
 use Rattle.meeting.proofs.Seen.{Seen, seen, seen-length, seen-down, seen-met, met-seen}
-use Rattle.meeting.proofs.Waits.{code, waits-none, Waiting, wait-taken}
+use Rattle.meeting.proofs.Waits.{code, Waiting, wait-taken}
 
 map-take : (f : ℕ → ℕ) (i : ℕ) (xs : List ℕ) → map f (take i xs) ≡ take i (map f xs)
 map-take f zero xs = refl
@@ -40,9 +42,9 @@ module _ {n : ℕ} (es : List Edge) (proper : Proper n es) (block : List ℕ) (y
   inside : getD block y 0 < k
   inside = below y (le-refl y)
 
-  -- the weight of y, the blocks of its edges, and of those that lead down
+  -- how many edges lead up from y, the blocks of its edges, and of those that lead down
   w : ℕ
-  w = weight es y
+  w = lowerCount es y
 
   bs : List ℕ
   bs = blocksAt block es y
@@ -74,11 +76,11 @@ module _ {n : ℕ} (es : List Edge) (proper : Proper n es) (block : List ℕ) (y
           same : (j : ℕ) → j < k → b < k → j ≡ b
           same j i g = omega arith
 
-  module _ {count read : ℕ} (m : MetAt k block y (weight es y) (lowerEnds es y) count read) where
+  module _ {count read : ℕ} (m : MetAt k block y (lowerCount es y) (lowerEnds es y) count read) where
     -- the blocks that were met when i lower neighbours were read
-    met-front : (i : ℕ) → metBlocks block y (weight es y) (take i (lowerEnds es y)) ≡ ownBlock w (getD block y 0) ++ take i ds
+    met-front : (i : ℕ) → metBlocks block y (lowerCount es y) (take i (lowerEnds es y)) ≡ ownBlock w (getD block y 0) ++ take i ds
     unfolding metBlocks w ds
-    met-front i = ap (λ (l : List ℕ). ownBlock (weight es y) (getD block y 0) ++ l) (map-take (λ (u : ℕ). getD block u 0) i (lowerEnds es y))
+    met-front i = ap (λ (l : List ℕ). ownBlock (lowerCount es y) (getD block y 0) ++ l) (map-take (λ (u : ℕ). getD block u 0) i (lowerEnds es y))
 
     long : length ds ≡ length (lowerEnds es y)
     unfolding ds
@@ -142,7 +144,7 @@ module _ {n : ℕ} (es : List Edge) (proper : Proper n es) (block : List ℕ) (y
           (λ (e : takenAfter k [] bs ≡ length bs). omega (arith, seen-length block y at-y, long))
           (taken-ends k [] bs open-first .closed)
 
-  module _ {count taken pending : ℕ} (c : CountedAt k block y (weight es y) (lowerEnds es y) count taken pending) where
+  module _ {count taken pending : ℕ} (c : CountedAt k block y (lowerCount es y) (lowerEnds es y) count taken pending) where
     pub counted-blocks : count ≡ blockCount k block es y
     unfolding blockCount bs
     counted-blocks =
@@ -155,13 +157,13 @@ module _ {n : ℕ} (es : List Edge) (proper : Proper n es) (block : List ℕ) (y
         sum : Known → ℕ
         sum q = q .taken + waits block y (q .pending) es
 
-        met-all : count ≡ k → sum (knownAt k (weight es y) (length (lowerEnds es y)) count (c .read)) ≡ takenAfter k [] (blocksAt block es y)
+        met-all : count ≡ k → sum (knownAt k (lowerCount es y) (length (lowerEnds es y)) count (c .read)) ≡ takenAfter k [] (blocksAt block es y)
         met-all a =
             rw (eq-eqb count k a)
             (by-cases (ℕ-discrete k 1)
             (λ (o : k ≡ 1). rw (eq-eqb k 1 o) (omega (arith, one-taken o (whole (c .met) a), waits-none block y es)))
             (λ (m : k ≢ 1).
             rw (ne-eqb k 1 m)
-            (by-cases (ℕ-discrete (weight es y) 0)
-            (λ (e : weight es y ≡ 0). rw (eq-eqb (weight es y) 0 e) (omega (arith, read-taken (c .met) a e, waits-none block y es)))
-            (λ (d : weight es y ≢ 0). rw (ne-eqb (weight es y) 0 d) (omega (arith, wait (c .met) a h d))))))
+            (by-cases (ℕ-discrete (lowerCount es y) 0)
+            (λ (e : lowerCount es y ≡ 0). rw (eq-eqb (lowerCount es y) 0 e) (omega (arith, read-taken (c .met) a e, waits-none block y es)))
+            (λ (d : lowerCount es y ≢ 0). rw (ne-eqb (lowerCount es y) 0 d) (omega (arith, wait (c .met) a h d))))))

@@ -17,8 +17,8 @@ use Rattle.sorting.proofs.Counts.{count-le, count-all, count-none}
 use Rattle.trimming.proofs.Lists.{stretch, stretch-in, sum-agree}
 use Rattle.groups.proofs.Sums.{only, total, total-add, total-here}
 use Rattle.slots.proofs.Counts.{count-ext}
-use Rattle.cost.specs.Figures.{different}
-use Rattle.cost.proofs.Sums.{count-total}
+use Rattle.meeting.specs.BlockCount.{different}
+use Rattle.meeting.proofs.Sums.{count-total}
 use Rattle.meeting.specs.Taken.{allMet}
 
 member-last : (j b : ℕ) (bs : List ℕ) → member j (bs ++ b ∷ []) ≡ (member j bs || eqb j b)

@@ -12,17 +12,17 @@ use lib.Dec.{eqb}
 use lib.ListN.{length, getD}
 use borrow.Author.Tests.{eq-eqb, ne-eqb}
 use Rattle.game.specs.Table.{count, one-if, filtered}
-use Rattle.game.specs.Edge.{Edge, _─_, lower, upper}
+use Rattle.game.specs.Edge.{Edge, _─_, lower, upper, touches}
 use Rattle.game.specs.Graph.{Proper}
-use Rattle.game.specs.Net.{owner, weight}
+use Rattle.game.specs.Net.{owner}
 use Rattle.game.proofs.Bools.{or-left, or-right}
 use Rattle.game.proofs.Proper.{proper-head, proper-tail}
-use Rattle.game.proofs.Weights.{weight-count}
 use Rattle.bucket.specs.Ends.{endOf}
 use Rattle.bucket.specs.Filed.{lowerEnds}
+use Rattle.slots.specs.Given.{lowerCount}
 use Rattle.sorting.proofs.Values.{values-nil, values-here, values-other}
-use Rattle.cost.specs.Figures.{edgeBlock, edgeBlocks, touches, blocksAt}
-use Rattle.cost.proofs.Blocks.{filtered-take, filtered-leave}
+use Rattle.meeting.specs.BlockCount.{edgeBlock, edgeBlocks, blocksAt}
+use Rattle.meeting.proofs.Blocks.{filtered-take, filtered-leave}
 use Rattle.meeting.specs.Steps.{ownBlock}
 
 module _ (block : List ℕ) (y : ℕ) where
@@ -96,13 +96,13 @@ module _ (block : List ℕ) (y : ℕ) where
   unfolding blocksAt
   at-other e es t = ap (edgeBlocks block) (filtered-leave (touches y) es t)
 
-  weight-up : (e : Edge) (es : List Edge) → lower e ≡ y → weight (e ∷ es) y ≡ suc (weight es y)
-  unfolding count one-if
-  weight-up e es l = weight-count (e ∷ es) y ∙ rw (eq-eqb (lower e) y l) (omega (arith, weight-count es y))
+  count-up : (e : Edge) (es : List Edge) → lower e ≡ y → lowerCount (e ∷ es) y ≡ suc (lowerCount es y)
+  unfolding lowerCount count one-if
+  count-up e es l = rw (eq-eqb (lower e) y l) (omega arith)
 
-  weight-other : (e : Edge) (es : List Edge) → lower e ≢ y → weight (e ∷ es) y ≡ weight es y
-  unfolding count one-if
-  weight-other e es d = weight-count (e ∷ es) y ∙ rw (ne-eqb (lower e) y d) (omega (arith, weight-count es y))
+  count-other : (e : Edge) (es : List Edge) → lower e ≢ y → lowerCount (e ∷ es) y ≡ lowerCount es y
+  unfolding lowerCount count one-if
+  count-other e es d = rw (ne-eqb (lower e) y d) (omega arith)
 
   -- the ends of an edge that is none of y's, or is
   touches-end : (a b : ℕ) → (lower (a ─ b) ≡ y) ⊎ (endOf true (a ─ b) ≡ y) → touches y (a ─ b) ≡ true
@@ -133,21 +133,21 @@ module _ (block : List ℕ) (y : ℕ) where
       apart d e = d (omega arith)
 
   -- the edges of a graph are seen so
-  pub seen : {n : ℕ} (es : List Edge) → Proper n es → Seen es (weight es y) (blocksAt block es y) (map (λ (u : ℕ). getD block u 0) (lowerEnds es y))
-  unfolding blocksAt edgeBlocks filtered count endOf
-  seen [] p = rw (weight-count [] y, values-nil (endOf true) (endOf false) y) nil
+  pub seen : {n : ℕ} (es : List Edge) → Proper n es → Seen es (lowerCount es y) (blocksAt block es y) (map (λ (u : ℕ). getD block u 0) (lowerEnds es y))
+  unfolding blocksAt edgeBlocks filtered lowerCount count endOf
+  seen [] p = rw (values-nil (endOf true) (endOf false) y) nil
   seen ((a ─ b) ∷ es) p =
       by-cases (ℕ-discrete (lower e) y)
       (λ (l : lower e ≡ y).
-      rw (weight-up e es l, at-here e es (touches-end a b (inl l)), l, values-other (endOf true) (endOf false) e es y (ends-apart a b (proper-head p .2) l))
+      rw (count-up e es l, at-here e es (touches-end a b (inl l)), l, values-other (endOf true) (endOf false) e es y (ends-apart a b (proper-head p .2) l))
       (up (touches-end a b (inl l)) l (seen es (proper-tail p))))
       (λ (d : lower e ≢ y).
       by-cases (ℕ-discrete (endOf true e) y)
       (λ (u : endOf true e ≡ y).
-      rw (weight-other e es d, at-here e es (touches-end a b (inr u)), values-here (endOf true) (endOf false) e es y u)
+      rw (count-other e es d, at-here e es (touches-end a b (inr u)), values-here (endOf true) (endOf false) e es y u)
       (down (touches-end a b (inr u)) d (seen es (proper-tail p))))
       (λ (v : endOf true e ≢ y).
-      rw (weight-other e es d, at-other e es (touches-none a b d v), values-other (endOf true) (endOf false) e es y v)
+      rw (count-other e es d, at-other e es (touches-none a b d v), values-other (endOf true) (endOf false) e es y v)
       (away (touches-none a b d v) (seen es (proper-tail p)))))
     where
       e : Edge

@@ -14,7 +14,7 @@ use lib.ListN.{length, getD, set, take, length-set}
 use lib.Seq.{getD-set-same, getD-set-other, set-getD, take-suc}
 use borrow.Author.Tests.{eq-eqb, ne-eqb}
 use Rattle.game.specs.Table.{member}
-use Rattle.cost.specs.Figures.{different}
+use Rattle.meeting.specs.BlockCount.{different}
 use Rattle.meeting.specs.Steps.{ownBlock, metBlocks, Fresh, Stamped, Counts}
 use Rattle.meeting.proofs.Different.{member-here, member-other, different-last, different-none, different-le}
 
@@ -64,12 +64,12 @@ module _ (stamps : List ℕ) (stamp : ℕ) {at b : ℕ} (same : at ≡ b) where
 
 -- a vertex's own block
 module _ {stamps : List ℕ} {stamp : ℕ} (f : Fresh stamps stamp) (b : ℕ) where
-  pub own-none : {weight : ℕ} → weight ≡ 0 → Stamped stamps stamp (ownBlock weight b) 0
+  pub own-none : {up : ℕ} → up ≡ 0 → Stamped stamps stamp (ownBlock up b) 0
   unfolding ownBlock
   own-none e = rw e (stamped-none f)
 
-  pub own-met : (weight : ℕ) → (weight ≡ 0 → ⊥) → b < length stamps → {stamps′ : List ℕ} {d : ℕ} → stamps′ ≡ set stamps b stamp
-      → d ≡ cond (eqb (getD stamps b 0) stamp) 0 1 → Stamped stamps′ stamp (ownBlock weight b) d
+  pub own-met : (up : ℕ) → (up ≡ 0 → ⊥) → b < length stamps → {stamps′ : List ℕ} {d : ℕ} → stamps′ ≡ set stamps b stamp
+      → d ≡ cond (eqb (getD stamps b 0) stamp) 0 1 → Stamped stamps′ stamp (ownBlock up b) d
   unfolding ownBlock
   own-met zero n h e q = absurd (n refl)
   own-met (suc w) n h {stamps′} {d} e q = subst (Stamped stamps′ stamp (b ∷ [])) (zero-add d) (stamped-meet (stamped-none f) b h e q)
@@ -79,45 +79,45 @@ pub stamped-few : {stamps : List ℕ} {stamp : ℕ} {bs : List ℕ} {r : ℕ} �
 stamped-few {stamps} {bs = bs} s = le-trans (le-of-eq (s .counted)) (different-le (length stamps) bs)
 
 -- where the count at y stands: the first i of its lower neighbours are read, and no fewer met all blocks
-pub record AtTurn (k : ℕ) (block : List ℕ) (y weight : ℕ) (lower stamps : List ℕ) (count i : ℕ) : Type 0 where
+pub record AtTurn (k : ℕ) (block : List ℕ) (y up : ℕ) (lower stamps : List ℕ) (count i : ℕ) : Type 0 where
   pub within : i ≤ length lower
   pub all : length stamps ≡ k
-  pub stamped : Stamped stamps (y + 1) (metBlocks block y weight (take i lower)) count
-  pub needed : (j : ℕ) → j < i → different k (metBlocks block y weight (take j lower)) < k
+  pub stamped : Stamped stamps (y + 1) (metBlocks block y up (take i lower)) count
+  pub needed : (j : ℕ) → j < i → different k (metBlocks block y up (take j lower)) < k
 
-module _ {k : ℕ} {block : List ℕ} {y weight : ℕ} {lower : List ℕ} where
+module _ {k : ℕ} {block : List ℕ} {y up : ℕ} {lower : List ℕ} where
   -- the own block is met
-  pub at-start : {at r : ℕ} {stamps : List ℕ} → at ≡ y → length stamps ≡ k → Stamped stamps (y + 1) (ownBlock weight (getD block at 0)) r
-      → AtTurn k block y weight lower stamps r 0
+  pub at-start : {at r : ℕ} {stamps : List ℕ} → at ≡ y → length stamps ≡ k → Stamped stamps (y + 1) (ownBlock up (getD block at 0)) r
+      → AtTurn k block y up lower stamps r 0
   unfolding metBlocks
   at-start {r = r} {stamps = stamps} e l s = record {
     within = omega arith;
     all = l;
     stamped =
         subst (λ (bs : List ℕ). Stamped stamps (y + 1) bs r)
-        (ap (λ (v : ℕ). ownBlock weight (getD block v 0)) e ∙ sym (append-nil (ownBlock weight (getD block y 0)))) s;
+        (ap (λ (v : ℕ). ownBlock up (getD block v 0)) e ∙ sym (append-nil (ownBlock up (getD block y 0)))) s;
     needed = λ j h. absurd (omega arith);
   }
 
-  module _ {stamps : List ℕ} {count i : ℕ} (t : AtTurn k block y weight lower stamps count i) where
+  module _ {stamps : List ℕ} {count i : ℕ} (t : AtTurn k block y up lower stamps count i) where
     pub at-few : count ≤ k
     at-few = omega (arith, stamped-few (t .stamped), t .all)
 
     -- one lower neighbour more
     pub at-step : i < length lower → (count ≡ k → ⊥) → {at d : ℕ} {stamps′ : List ℕ} → at ≡ getD lower i 0 → getD block at 0 < k
         → stamps′ ≡ set stamps (getD block at 0) (y + 1) → d ≡ cond (eqb (getD stamps (getD block at 0) 0) (y + 1)) 0 1
-        → AtTurn k block y weight lower stamps′ (count + d) (i + 1)
+        → AtTurn k block y up lower stamps′ (count + d) (i + 1)
     unfolding metBlocks
     at-step h n {at} {d} {stamps′} e b q f = record {
       within = omega arith;
       all = ap length q ∙ length-set stamps (getD block at 0) (y + 1) ∙ t .all;
       stamped =
           subst (λ (bs : List ℕ). Stamped stamps′ (y + 1) bs (count + d))
-          (append-assoc (ownBlock weight (getD block y 0)) (map blockAt (take i lower)) (getD block at 0 ∷ [])
-          ∙ ap (λ (bs : List ℕ). ownBlock weight (getD block y 0) ++ bs)
+          (append-assoc (ownBlock up (getD block y 0)) (map blockAt (take i lower)) (getD block at 0 ∷ [])
+          ∙ ap (λ (bs : List ℕ). ownBlock up (getD block y 0) ++ bs)
           (ap (λ (u : ℕ). map blockAt (take i lower) ++ (getD block u 0 ∷ [])) e ∙ sym (map-append blockAt (take i lower) (getD lower i 0 ∷ [])) ∙ ap (map blockAt) longer))
           (stamped-meet (t .stamped) (getD block at 0) (omega (arith, t .all)) q f);
-      needed = λ j l. by-cases (decLt j i) (t .needed j) (λ (o : j < i → ⊥). subst (λ (v : ℕ). different k (metBlocks block y weight (take v lower)) < k) (last l o) fewer);
+      needed = λ j l. by-cases (decLt j i) (t .needed j) (λ (o : j < i → ⊥). subst (λ (v : ℕ). different k (metBlocks block y up (take v lower)) < k) (last l o) fewer);
     }
       where
         blockAt : ℕ → ℕ
@@ -132,23 +132,23 @@ module _ {k : ℕ} {block : List ℕ} {y weight : ℕ} {lower : List ℕ} where
         less : (count ≡ k → ⊥) → count ≤ k → count < k
         less n h = omega arith
 
-        fewer : different k (metBlocks block y weight (take i lower)) < k
-        fewer = omega (arith, less n at-few, t .stamped .counted, ap (λ (m : ℕ). different m (metBlocks block y weight (take i lower))) (t .all))
+        fewer : different k (metBlocks block y up (take i lower)) < k
+        fewer = omega (arith, less n at-few, t .stamped .counted, ap (λ (m : ℕ). different m (metBlocks block y up (take i lower))) (t .all))
 
     -- all blocks are met, or there is no other neighbour
-    found : (count ≡ k) ⊎ (length lower ≤ i) → Counts k block y weight lower stamps (record { count = count; read = i })
+    found : (count ≡ k) ⊎ (length lower ≤ i) → Counts k block y up lower stamps (record { count = count; read = i })
     found h = record {
       known = t .stamped .known;
       found = record {
         within = t .within;
-        counted = t .stamped .counted ∙ ap (λ (m : ℕ). different m (metBlocks block y weight (take i lower))) (t .all);
+        counted = t .stamped .counted ∙ ap (λ (m : ℕ). different m (metBlocks block y up (take i lower))) (t .all);
         ended = λ (l : i < length lower). ⊎-elim (λ e. e) (λ (g : length lower ≤ i). absurd (omega arith)) h;
         needed = t .needed;
       };
     }
 
-    pub at-all : count ≡ k → Counts k block y weight lower stamps (record { count = count; read = i })
+    pub at-all : count ≡ k → Counts k block y up lower stamps (record { count = count; read = i })
     at-all e = found (inl e)
 
-    pub at-end : length lower ≤ i → Counts k block y weight lower stamps (record { count = count; read = i })
+    pub at-end : length lower ≤ i → Counts k block y up lower stamps (record { count = count; read = i })
     at-end h = found (inr h)

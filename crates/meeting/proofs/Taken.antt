@@ -9,7 +9,7 @@ use native.Mathlib.Omega.{arith}
 use lib.ListN.{length, take}
 use lib.Seq.{take-all}
 use Rattle.game.proofs.Bools.{test-cases}
-use Rattle.cost.specs.Figures.{different}
+use Rattle.meeting.specs.BlockCount.{different}
 use Rattle.meeting.specs.Taken.{allMet, takenAfter, CountEnds}
 use Rattle.meeting.proofs.Different.{different-none, Full, full-within, full-different, different-full, met-full, unmet-open, open-fewer, fewer-open, different-le}
 

@@ -15,9 +15,9 @@ use Rattle.game.specs.Table.{member, one-if}
 use Rattle.game.specs.Edge.{Edge, lower}
 use Rattle.game.proofs.Bools.{or-left, or-right, test-cases}
 use Rattle.game.proofs.Tables.{member-in, in-member}
-use Rattle.cost.specs.Figures.{touches}
 use Rattle.meeting.specs.Taken.{allMet, takenAfter}
-use Rattle.meeting.specs.Steps.{unmet, nextPending, nextAt, waiting, waits}
+use Rattle.waiting.specs.Steps.{unmet, nextPending, nextAt, waiting, waits}
+use Rattle.waiting.proofs.Coming.{waits-none, waits-away, waits-here}
 use Rattle.meeting.proofs.Different.{Full, full-within, met-full, unmet-open}
 use Rattle.meeting.proofs.Taken.{to-front, from-front}
 use Rattle.meeting.proofs.Seen.{Seen, nil, away, up, down}
@@ -38,26 +38,6 @@ code-some : (o : Bool) (r : ℕ) → (o ≡ true → r ≡ 0 → ⊥) → waitin
 unfolding waiting code
 code-some true r h = rw (ne-eqb r 0 (h refl))
 code-some false r h = rw (ne-eqb (r + unmet) 0 (λ (e : r + unmet ≡ 0). absurd (omega arith)))
-
--- nothing is waited for
-pub next-none : (block : List ℕ) (x low : ℕ) → nextAt block x low 0 ≡ 0
-unfolding nextAt nextPending
-next-none block x low = omega arith
-
-pub waits-none : (block : List ℕ) (x : ℕ) (es : List Edge) → waits block x 0 es ≡ 0
-unfolding waits waiting
-waits-none block x [] = refl
-waits-none block x (e ∷ es) = test-cases (touches x e) (λ t. rw (t, next-none block x (lower e)) (omega (arith, waits-none block x es))) (λ t. rw t (waits-none block x es))
-
--- an edge comes that is none of x's, or is
-pub waits-away : (block : List ℕ) (x p : ℕ) (e : Edge) (es : List Edge) → touches x e ≡ false → waits block x p (e ∷ es) ≡ waits block x p es
-unfolding waits
-waits-away block x p e es t = rw t
-
-pub waits-here : (block : List ℕ) (x p : ℕ) (e : Edge) (es : List Edge) → touches x e ≡ true
-    → waits block x p (e ∷ es) ≡ waiting p + waits block x (nextAt block x (lower e) p) es
-unfolding waits
-waits-here block x p e es t = rw t
 
 -- two blocks in front, exchanged
 exchange : (a b : ℕ) (bs : List ℕ) (j : ℕ) → List·Memᴰ j (a ∷ b ∷ bs) → List·Memᴰ j (b ∷ a ∷ bs)

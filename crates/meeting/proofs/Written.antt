@@ -10,19 +10,19 @@ use native.Mathlib.Decide.{decLt}
 use native.Mathlib.Omega.{arith}
 use lib.ListN.{length, length-map, getD, take, drop, replicate, length-replicate, getD-replicate, List·getD-eq-default}
 use Rattle.game.specs.Edge.{Edge, lower}
-use Rattle.game.specs.Net.{weight}
-use Rattle.game.proofs.Tables.{tabulate-unique}
-use Rattle.game.proofs.Weights.{weight-count, weights-entry, weights-length}
+use Rattle.game.proofs.Tables.{tabulate-length, tabulate-entry, tabulate-unique}
 use Rattle.bucket.specs.Ends.{endOf, below}
 use Rattle.bucket.specs.Filed.{lowerEnds}
+use Rattle.slots.specs.Given.{lowerCount, lowerCounts}
 use Rattle.bucket.proofs.Reading.{filed-consecutive, filed-holds}
 use Rattle.sorting.proofs.Counts.{count-le}
 use Rattle.sorting.proofs.Keys.{key-le, below-zero, below-le}
 use Rattle.sorting.proofs.Values.{values-length}
 use Rattle.packing.specs.Pack.{maxBlocks}
-use Rattle.cost.specs.Figures.{blocksAt, blockCount}
+use Rattle.meeting.specs.BlockCount.{blocksAt, blockCount}
 use Rattle.meeting.specs.Taken.{edgesTaken}
-use Rattle.meeting.specs.Steps.{Fresh, CountedAt, Bucketed, Counted, waits, Sweepable, Swept, Countable, Writes}
+use Rattle.waiting.specs.Steps.{waits, Sweepable, Swept}
+use Rattle.meeting.specs.Steps.{Fresh, CountedAt, Bucketed, Counted, Countable, Writes}
 use Rattle.meeting.proofs.Taken.{taken-ends, nothing-open}
 use Rattle.meeting.proofs.Seen.{seen, seen-length}
 use Rattle.meeting.proofs.Counted.{counted-blocks, counted-taken}
@@ -37,7 +37,7 @@ zeros-front (suc m) (suc n) h = ap (λ (l : List ℕ). 0 ∷ l) (zeros-front m n
 fresh-zeros : (k : ℕ) → Fresh (replicate k 0) 1
 fresh-zeros k = record { older = λ j. by-cases (decLt j k) (λ h. omega (arith, getD-replicate {A = ℕ} k j 0 0 h)) (λ (h : j < k → ⊥). omega (arith, List·getD-eq-default {A = ℕ} (replicate k 0) 0 {n = j} (omega (arith, length-replicate {A = ℕ} k 0)))) }
 
-module _ {es : List Edge} {weights block : List ℕ} {k : ℕ} {ends lower counts taken pending : List ℕ} (c : Countable es weights block k ends lower counts taken pending) where
+module _ {es : List Edge} {upward block : List ℕ} {k : ℕ} {ends lower counts taken pending : List ℕ} (c : Countable es upward block k ends lower counts taken pending) where
   long : length ends ≡ length block
   long = c .filed .sorted .long
 
@@ -51,26 +51,29 @@ module _ {es : List Edge} {weights block : List ℕ} {k : ℕ} {ends lower count
           by-cases (decLt i (below y es)) (earlier y (omega arith))
           (λ (o : i < below y es → ⊥). omega (arith, filed-holds (c .filed) y i (omega arith) (omega arith) (rw (← add-one y) at l) .0))
 
-  weighed : length weights ≡ length ends
-  weighed = ap length (c .weighed) ∙ weights-length (length block) es ∙ sym long
+  upward-long : length upward ≡ length ends
+  unfolding lowerCounts
+  upward-long = ap length (c .counted) ∙ tabulate-length (length block) (lowerCount es) ∙ sym long
 
-  weight-is : (y : ℕ) → y < length block → getD weights y 0 ≡ weight es y
-  weight-is y h = ap (λ (w : List ℕ). getD w y 0) (c .weighed) ∙ weights-entry (length block) es h
+  upward-is : (y : ℕ) → y < length block → getD upward y 0 ≡ lowerCount es y
+  unfolding lowerCounts
+  upward-is y h = ap (λ (u : List ℕ). getD u y 0) (c .counted) ∙ tabulate-entry (length block) (lowerCount es) y 0 h
 
-  light : (y : ℕ) → weight es y ≤ length es
-  light y = rw (weight-count es y) (count-le _ es)
+  few-upward : (y : ℕ) → lowerCount es y ≤ length es
+  unfolding lowerCount
+  few-upward y = count-le _ es
 
   few-lower : (y : ℕ) → length (lowerEnds es y) ≤ length es
   few-lower y = omega (arith, values-length (endOf true) (endOf false) es y, key-le (endOf true) es y)
 
   -- the count can begin
-  pub count-ready : {all : ℕ} {stamps : List ℕ} → all ≡ k → stamps ≡ take (all - 0) (drop 0 (replicate maxBlocks 0)) → Bucketed ends lower weights block k counts taken pending stamps
+  pub count-ready : {all : ℕ} {stamps : List ℕ} → all ≡ k → stamps ≡ take (all - 0) (drop 0 (replicate maxBlocks 0)) → Bucketed ends lower upward block k counts taken pending stamps
   count-ready {all} {stamps} e q = record {
     buckets = filed-consecutive (c .filed) (c .few);
     neighbours = λ y i h l. omega (arith, inside y i (omega (arith, long)) (omega (arith, c .filed .sorted .end-at y (omega (arith, long)))), long);
     short = λ y h. omega (arith, c .filed .sorted .end-at y (omega (arith, long)), below-le (endOf true) (y + 1) es, c .few-edges);
-    weighed = weighed;
-    light = λ y h. omega (arith, weight-is y (omega (arith, long)), light y, c .few-edges);
+    counted = upward-long;
+    few-upward = λ y h. omega (arith, upward-is y (omega (arith, long)), few-upward y, c .few-edges);
     blocked = sym long;
     blocks = λ x h. c .blocks x (omega (arith, long));
     counts-long = c .counts-long ∙ sym long;
@@ -88,11 +91,11 @@ module _ {es : List Edge} {weights block : List ℕ} {k : ℕ} {ends lower count
           less e = omega arith
 
   -- when the buckets are counted
-  module _ {counts′ taken′ pending′ : List ℕ} (b : Counted k ends lower weights block counts′ taken′ pending′) where
-    at : (y : ℕ) → y < length block → CountedAt k block y (weight es y) (lowerEnds es y) (getD counts′ y 0) (getD taken′ y 0) (getD pending′ y 0)
+  module _ {counts′ taken′ pending′ : List ℕ} (b : Counted k ends lower upward block counts′ taken′ pending′) where
+    at : (y : ℕ) → y < length block → CountedAt k block y (lowerCount es y) (lowerEnds es y) (getD counts′ y 0) (getD taken′ y 0) (getD pending′ y 0)
     at y h =
-        subst (λ (w : ℕ). CountedAt k block y w (lowerEnds es y) (getD counts′ y 0) (getD taken′ y 0) (getD pending′ y 0)) (weight-is y h)
-        (subst (λ (l : List ℕ). CountedAt k block y (getD weights y 0) l (getD counts′ y 0) (getD taken′ y 0) (getD pending′ y 0)) (c .filed .sorted .bucket y h)
+        subst (λ (w : ℕ). CountedAt k block y w (lowerEnds es y) (getD counts′ y 0) (getD taken′ y 0) (getD pending′ y 0)) (upward-is y h)
+        (subst (λ (l : List ℕ). CountedAt k block y (getD upward y 0) l (getD counts′ y 0) (getD taken′ y 0) (getD pending′ y 0)) (c .filed .sorted .bucket y h)
         (b .each y (omega (arith, long))))
 
     takes : (y : ℕ) → y < length block → getD taken′ y 0 + waits block y (getD pending′ y 0) es ≡ edgesTaken k block es y
@@ -107,7 +110,7 @@ module _ {es : List Edge} {weights block : List ℕ} {k : ℕ} {ends lower count
           taken-ends k [] (blocksAt block es y) (nothing-open k (c .some)) .within,
           seen-length block y (seen block y es (c .filed .proper)),
           length-map (lowerEnds es y) (λ (u : ℕ). getD block u 0),
-          light y,
+          few-upward y,
           few-lower y,
         )
 

@@ -6,7 +6,7 @@ use mathlib.Core.Path.{_≡_, refl}
 use mathlib.Core.List.{List, [], _∷_}
 use Prim.Native.Nat.{ℕ}
 use Rattle.game.specs.Table.{tabulate, count, member}
-use Rattle.cost.specs.Figures.{different}
+use Rattle.meeting.specs.BlockCount.{different}
 use Rattle.meeting.specs.Taken.{allMet, takenAfter}
 
 pub computed : List ℕ

@@ -10,7 +10,7 @@ use Prim.Native.Nat.{ℕ, suc, _≤_, _<_}
 use lib.Dec.{eqb}
 use lib.ListN.{length, take}
 use Rattle.game.specs.Edge.{Edge}
-use Rattle.cost.specs.Figures.{blocksAt, different}
+use Rattle.meeting.specs.BlockCount.{blocksAt, different}
 
 -- all k blocks are among those met
 unfoldable pub allMet : ℕ → List ℕ → Bool

@@ -6,18 +6,17 @@
 // waits, and one pass over the list, which ends when none waits any more, tells when its count ended (waiting).
 mod counting;
 mod stamping;
-mod waiting;
 
 ghost use Rattle.game.specs.Edge.{edges as edgesOf};
 ghost use Rattle.meeting.specs.Steps.{Countable, Writes};
 
 // A stamp for each block.
-const STAMPS: usize = partition::MAX_BLOCKS as usize;
+const STAMPS: usize = packing::MAX_BLOCKS as usize;
 
 // Writes for each vertex how many different ones of `all` blocks it meets, and how many of its edges that takes, from edges that are
 // filed by their upper end. `pending` is a work table.
 pub fn write_block_counts(
-    weights: &[u32],
+    upward: &[u32],
     edges: &[u32],
     block: &[u32],
     all: u32,
@@ -27,12 +26,12 @@ pub fn write_block_counts(
     edges_taken: &mut [u32],
     pending: &mut [u32],
 )
-    requires { ⌜ Countable (edgesOf (now edges)) (now weights) (now block) all (now ends) (now lower) (now «block_count») (now «edges_taken») (now pending) ⌝ }
+    requires { ⌜ Countable (edgesOf (now edges)) (now upward) (now block) all (now ends) (now lower) (now «block_count») (now «edges_taken») (now pending) ⌝ }
     ensures { λ _. ⌜ Writes (edgesOf (now (edges .entry))) (now (block .entry)) all (now («block_count» .exit)) (now («edges_taken» .exit)) ⌝ }
 {
     let mut stamps = [0u32; STAMPS];
     counting::count_buckets(
-        weights,
+        upward,
         block,
         all,
         ends,

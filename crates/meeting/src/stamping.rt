@@ -20,12 +20,12 @@ pub fn meet(block: u32, stamp: u32, stamps: &mut [u32]) -> u32
     1
 }
 
-// Stamps the block of a vertex that has a weight.
-pub fn meet_own(weight: u32, block: u32, stamp: u32, stamps: &mut [u32]) -> u32
+// Stamps the block of a vertex that has edges that lead up.
+pub fn meet_own(up: u32, block: u32, stamp: u32, stamps: &mut [u32]) -> u32
     requires { ⌜ (block < length (now stamps)) × Fresh (now stamps) stamp ⌝ }
-    ensures { λ r. ⌜ Stamped (now (stamps .exit)) stamp (ownBlock weight block) r ⌝ }
+    ensures { λ r. ⌜ Stamped (now (stamps .exit)) stamp (ownBlock up block) r ⌝ }
 {
-    if weight == 0 {
+    if up == 0 {
         return 0;
     }
     meet(block, stamp, stamps)

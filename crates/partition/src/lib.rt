@@ -6,7 +6,6 @@ mod limits;
 pub use dividing::cut_and_pack;
 pub use dividing::divide;
 pub use dividing::wrong_tables;
-pub use limits::MAX_BLOCKS;
 pub use limits::MAX_LIMIT;
 pub use limits::bad_limits;
 pub use limits::too_heavy;

@@ -4,42 +4,17 @@
 -- none), load, reach, top, block, block count; then bound and volume." Each line ends with a newline, the last one too.
 -- Document 02, Paper 4: "The program's last line continues with `share`, the quotient, and the remainder, separated by spaces."
 -- Assumes nothing.
-use mathlib.Core.Bool.{cond}
 use mathlib.Core.List.{List, [], _++_}
 use Prim.Native.Nat.{ℕ, zero, suc}
-use lib.Dec.{eqb}
 use lib.ListN.{getD}
-use Rattle.game.specs.Game.{absent}
 use Rattle.decimal.specs.Ascii.{ascii}
 use Rattle.decimal.specs.Decimal.{decimal}
+use Rattle.fields.specs.Line.{spaced, newlined, lineText}
 use Rattle.sharing.specs.declared.Share.{Share}
 use Rattle.cost.specs.declared.Totals.{Totals}
 
--- a field of a line, and the space behind it
-unfoldable pub spaced : List ℕ → List ℕ
-spaced field = field ++ ascii " "
-
--- the last field of a line, and the newline behind it
-unfoldable pub newlined : List ℕ → List ℕ
-newlined field = field ++ ascii "\n"
-
 unfoldable pub refusedText : ℕ → List ℕ
 refusedText k = ascii "refused " ++ newlined (decimal k)
-
--- "parent (`-` if none)"
-unfoldable pub parentText : ℕ → List ℕ
-parentText p = cond (eqb p absent) (ascii "-") (decimal p)
-
-unfoldable pub lineText : (rank vertex parent weight reach top block blockCount : ℕ) → List ℕ
-lineText rank vertex parent weight reach top block blockCount =
-    spaced (decimal rank)
-    ++ spaced (decimal vertex)
-    ++ spaced (parentText parent)
-    ++ spaced (decimal weight)
-    ++ spaced (decimal reach)
-    ++ spaced (decimal top)
-    ++ spaced (decimal block)
-    ++ newlined (decimal blockCount)
 
 -- the line of rank x, by the order, the net and the figures of its report
 unfoldable pub rankText : (order parents weights reach top block blockCount : List ℕ) → ℕ → List ℕ

@@ -7,20 +7,10 @@ use lib.ListN.{length}
 use Rattle.refusal.specs.Limits.{maxVertices}
 use Rattle.refusal.specs.Verdict.{Verdict, accepted, refused}
 use Rattle.cost.specs.declared.Totals.{Totals}
+use Rattle.fields.specs.Steps.{entryRoom, figureRoom}
 use Rattle.printing.specs.Lines.{refusedText, totalsText}
 
--- the room of a number of 32 bits, ten digits at most, and of the byte behind it
-abbrev pub entryRoom : ℕ
-entryRoom = 11
-
--- the same of a number of 64 bits, twenty digits at most
-abbrev pub figureRoom : ℕ
-figureRoom = 21
-
--- the room of a line, of the share, and of the last line, which the share ends: three words, two numbers of 64 bits and two of 32
-abbrev pub lineRoom : ℕ
-lineRoom = 8 * entryRoom
-
+-- the room of the share, and of the last line, which the share ends: three words, two numbers of 64 bits and two of 32
 abbrev pub shareRoom : ℕ
 shareRoom = 6 + 2 * entryRoom
 

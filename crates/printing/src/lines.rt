@@ -1,44 +1,19 @@
 // The lines of a run, written into a table of bytes from a place `at` on, or from its front. The answer of each function is the place
 // after what it wrote.
-use crate::fields::put_entry;
-use crate::fields::put_figure;
-use crate::fields::put_parent;
+use cost::ReportAnswer;
 use cost::Totals;
 use decimal::put_text;
-use report::ReportAnswer;
+use fields::put_entry;
+use fields::put_figure;
+use fields::put_line;
 use sharing::Share;
 ghost use Prim.Native.Nat.{_+_, _*_, _≤_};
 ghost use lib.ListN.{length};
 ghost use Rattle.decimal.specs.Put.{Put};
-ghost use Rattle.report.specs.Answer.{verdict};
-ghost use Rattle.printing.specs.Lines.{refusedText, lineText, rankText, linesBelow, shareText, totalsText};
-ghost use Rattle.printing.specs.Steps.{Columns, answerText, lineRoom, shareRoom, totalsRoom};
-
-// The line of a rank.
-fn put_line(
-    text: &mut [u8],
-    at: usize,
-    rank: u32,
-    vertex: u32,
-    parent: u32,
-    weight: u32,
-    reach: u32,
-    top: u32,
-    block: u32,
-    block_count: u32,
-) -> usize
-    requires { ⌜ at + lineRoom ≤ length (now text) ⌝ }
-    ensures { λ r. ⌜ Put (now (text .entry)) at (lineText rank vertex parent weight reach top block «block_count») (now (text .exit)) r × (r ≤ at + lineRoom) ⌝ }
-{
-    let end = put_entry(text, at, rank, b' ');
-    let end = put_entry(text, end, vertex, b' ');
-    let end = put_parent(text, end, parent);
-    let end = put_entry(text, end, weight, b' ');
-    let end = put_entry(text, end, reach, b' ');
-    let end = put_entry(text, end, top, b' ');
-    let end = put_entry(text, end, block, b' ');
-    put_entry(text, end, block_count, b'\n')
-}
+ghost use Rattle.cost.specs.Answer.{verdict};
+ghost use Rattle.fields.specs.Steps.{lineRoom};
+ghost use Rattle.printing.specs.Lines.{refusedText, rankText, linesBelow, shareText, totalsText};
+ghost use Rattle.printing.specs.Steps.{Columns, answerText, shareRoom, totalsRoom};
 
 // The lines of all ranks.
 fn put_lines(

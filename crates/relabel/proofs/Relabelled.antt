@@ -14,9 +14,10 @@ use Rattle.refusal.specs.Verdict.{accepted, refused}
 use Rattle.refusal.specs.Outcome.{ended}
 use Rattle.refusal.proofs.Fault.{faultless, fault-none, first-fault-on}
 use Rattle.refusal.proofs.Ends.{ends-refused, ends-accepted}
-use Rattle.relabel.specs.Relabel.{badOrder, rankOf, inverseOf, relabelled, relabelTables, relabelRefusal, relabelOutcome}
-use Rattle.relabel.specs.LookUp.{lookedUp}
-use Rattle.relabel.proofs.Rank.{rank-below, rank-injective}
+use Rattle.permutation.specs.Order.{badOrder, rankOf, inverseOf}
+use Rattle.relabel.specs.Relabel.{relabelled, relabelTables, relabelRefusal, relabelOutcome}
+use Rattle.permutation.specs.LookUp.{lookedUp}
+use Rattle.permutation.proofs.Rank.{rank-below, rank-injective}
 use Rattle.relabel.proofs.Faultless.{faultless-cons}
 use Rattle.relabel.proofs.Refused.{relabel-known}
 

@@ -1,4 +1,2 @@
--- Orders, an edge list relabelled by one, and the two means of doing it.
+-- An edge list relabelled by an order.
 pub mod Relabel
-pub mod VertexSet
-pub mod LookUp

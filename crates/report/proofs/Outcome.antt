@@ -112,7 +112,6 @@ module _ (of : Net) (B k : ℕ) (xs : List ℕ) (was : Lent) where
           let d = divide-known (of .parents) (of .weights) B k (was .written .division) (r .divides) in
           record {
             own = own-list;
-            weighed = weighed;
             filed = c .filed found;
             divisible = d .net;
             division = d .tables;

@@ -1,17 +1,15 @@
 -- How the code's tests say what the definition of the refusals asks, and what is known where none was given.
 -- Assumes nothing.
 use mathlib.Core.Path.{_≡_, refl}
-use mathlib.Core.Bool.{Bool, false, not, _||_}
+use mathlib.Core.Bool.{false}
 use mathlib.Core.List.{List}
-use Prim.Native.Nat.{ℕ, _+_, _/_, _%_, _≤_, _<_}
-use lib.Dec.{eqb}
+use Prim.Native.Nat.{ℕ, _≤_, _<_}
 use lib.ListN.{length}
 use Rattle.game.specs.Edge.{edges}
 use Rattle.game.specs.Net.{Net, net}
-use Rattle.game.proofs.Edges.{edges-length}
 use Rattle.game.proofs.Bools.{or-neither}
 use Rattle.refusal.specs.Limits.{maxEdges}
-use Rattle.refusal.specs.Refusal.{badCount, wrongLength, odd, firstFault}
+use Rattle.refusal.specs.Refusal.{badCount, odd, firstFault}
 use Rattle.refusal.proofs.First.{first-none, given-none, good-count, length-right}
 use Rattle.growth.specs.Work.{workOf, badWork}
 use Rattle.partition.specs.Divide.{divisionOf, wrongTables, divideRefusal}
@@ -22,6 +20,7 @@ use Rattle.compare.proofs.Refused.{list-passed}
 use Rattle.compare.proofs.Ready.{ComparedLengths, compared-lengths, comparable}
 use Rattle.writing.specs.Written.{written}
 use Rattle.early.specs.Early.{earlyRefusal}
+use Rattle.early.specs.Steps.{wrongLengths}
 use Rattle.report.specs.Report.{Lent, lent, wrongFigures, wrongLent}
 
 -- the tables that are lent, one by one
@@ -29,17 +28,11 @@ module _ (p w xs c t b l eb re bc ta cp cw e j lo : List ℕ) where
   abbrev was : Lent
   was = lent (written (divisionOf c t b l) eb re bc ta) (net cp cw) (workOf e j lo)
 
-  n : ℕ
-  n = length p
-
-  -- 2, by the lengths that the code compares
-  pub wrong-lengths : (k : ℕ) {blocks : ℕ} {d f o : Bool} → blocks ≡ k
-      → d ≡ (wrongLength (length w) (length p) || wrongLength (length c) (length p) || wrongLength (length t) (length p) || wrongLength (length b) (length p) || wrongLength (length l) blocks)
-      → f ≡ (wrongLength (length eb) (length xs / 2) || wrongLength (length re) (length p) || wrongLength (length bc) (length p) || wrongLength (length ta) (length p))
-      → o ≡ (wrongLength (length cp) (length p) || wrongLength (length cw) (length p) || (wrongLength (length e) (length p) || wrongLength (length j) (length p) || wrongLength (length lo) (length p + length xs / 2)))
-      → (d || f || o || not (eqb (length xs % 2) 0)) ≡ wrongLent (net p w) k xs was
-  unfolding wrongLent wrongTables wrongFigures wrongCompared badWork odd
-  wrong-lengths k q x y z = rw (x, y, z, q, ← edges-length xs) refl
+  -- 2, by the lengths of the tables one by one
+  pub wrong-lengths : (k : ℕ) → wrongLengths k p w xs (length c) (length t) (length b) (length l) (length eb) (length re) (length bc) (length ta) (length cp) (length cw) (length e) (length j) (length lo)
+      ≡ wrongLent (net p w) k xs was
+  unfolding wrongLengths wrongLent wrongTables wrongFigures wrongCompared badWork odd
+  wrong-lengths k = refl
 
 -- the lengths where none is wrong
 pub record Lengths (of : Net) (k : ℕ) (xs : List ℕ) (was : Lent) : Type 0 where

@@ -12,7 +12,7 @@ use Rattle.refusal.specs.Verdict.{accepted}
 use Rattle.refusal.proofs.First.{unless-accepted}
 use Rattle.partition.specs.Divide.{divided}
 use Rattle.cost.specs.declared.Totals.{Totals}
-use Rattle.cost.specs.Figures.{blocksAt}
+use Rattle.meeting.specs.BlockCount.{blocksAt}
 use Rattle.meeting.specs.Taken.{edgesTaken, CountEnds}
 use Rattle.meeting.proofs.Taken.{taken-ends, ends-count, nothing-open}
 use Rattle.writing.specs.Written.{Written, figures}

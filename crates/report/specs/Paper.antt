@@ -7,7 +7,7 @@ use mathlib.Core.List.{List, [], _∷_}
 use Prim.Native.Nat.{ℕ}
 use lib.ListN.{replicate}
 use Rattle.game.specs.Table.{tabulate, sum, count, member, filtered}
-use Rattle.game.specs.Edge.{lower, edges}
+use Rattle.game.specs.Edge.{lower, edges, touches}
 use Rattle.game.specs.Tree.{sound}
 use Rattle.game.specs.Net.{Net, net, netOf, reach}
 use Rattle.refusal.specs.Refusal.{given, first, unless, badCount, wrongLength, odd, fault, firstFault}
@@ -15,7 +15,8 @@ use Rattle.net.specs.Damage.{damagedBy, damaged}
 use Rattle.growth.specs.Work.{workOf, badWork, zeros, cleared}
 use Rattle.partition.specs.Divide.{divisionOf, badLimits, tooHeavy, divided, wrongTables}
 use Rattle.sharing.specs.Share.{share, evenShare}
-use Rattle.cost.specs.Figures.{edgeBlock, edgeBlocks, touches, blocksAt, different, blockCount, isCut, bound, volume, boundOf, volumeOf, shareOf, totals, totalsOf}
+use Rattle.meeting.specs.BlockCount.{edgeBlock, edgeBlocks, blocksAt, different, blockCount}
+use Rattle.cost.specs.Figures.{isCut, bound, volume, boundOf, volumeOf, shareOf, totals, totalsOf}
 use Rattle.meeting.specs.Taken.{allMet, takenAfter, edgesTaken}
 use Rattle.compare.specs.Compare.{wrongCompared, listRefusal, sameTable, sameNet, unlike}
 use Rattle.game.specs.Case.{whole, own, other, others}

@@ -3,11 +3,4 @@
 // blocks, and the even share of a block.
 mod reporting;
 
-use cost::Totals;
 pub use reporting::report;
-
-// What Report answers: the totals of the division, or the number of document 01's table for which it was refused.
-pub enum ReportAnswer {
-    Accepted(Totals),
-    Refused(u32),
-}

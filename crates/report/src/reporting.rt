@@ -1,8 +1,8 @@
 // The call Report. It decides by reading alone, up to 22; then it grows the net of the edges into the comparison tables and compares;
 // only then it writes anything else. The list is filed once, for growing; what is written is read from the same buckets.
-use crate::ReportAnswer;
+use cost::ReportAnswer;
 use early::early_refusal;
-use early::wrong_figures;
+use early::wrong_lengths;
 use writing::write_report;
 ghost use mathlib.Core.Path.{_≡_};
 ghost use Rattle.game.specs.Net.{net};
@@ -11,7 +11,7 @@ ghost use Rattle.partition.specs.Divide.{divisionOf};
 ghost use Rattle.growth.specs.Work.{workOf};
 ghost use Rattle.writing.specs.Written.{written};
 ghost use Rattle.report.specs.Report.{lent, reportOutcome};
-ghost use Rattle.report.specs.Answer.{verdict};
+ghost use Rattle.cost.specs.Answer.{verdict};
 
 // Divides a net and reports what the division costs, given the net's own edges. Beside Divide's tables it writes the block of each
 // edge, and of each vertex the reach, the block count and how many of its edges that took, and answers the bound, the volume and the even
@@ -47,35 +47,25 @@ pub fn report(
         (net (now («compared_parents» .entry)) (now («compared_weights» .entry)))
         (workOf (now (ends .entry)) (now (jump .entry)) (now (lower .entry)))) ⌝ }
 {
-    let n = parents.len();
-    let m = edges.len() / refusal::STRIDE;
-    let wrong = partition::wrong_tables(
-        n,
-        table::wide(blocks),
-        weights.len(),
+    let wrong = wrong_lengths(
+        blocks,
+        parents,
+        weights,
+        edges,
         carried.len(),
         top.len(),
         block.len(),
         block_loads.len(),
-    )
-        | wrong_figures(
-            n,
-            m,
-            edge_blocks.len(),
-            reach.len(),
-            block_count.len(),
-            edges_taken.len(),
-        )
-        | compare::wrong_compared(
-            n,
-            n + m,
-            compared_parents.len(),
-            compared_weights.len(),
-            ends.len(),
-            jump.len(),
-            lower.len(),
-        )
-        | (edges.len() % refusal::STRIDE != 0);
+        edge_blocks.len(),
+        reach.len(),
+        block_count.len(),
+        edges_taken.len(),
+        compared_parents.len(),
+        compared_weights.len(),
+        ends.len(),
+        jump.len(),
+        lower.len(),
+    );
     let code = early_refusal(parents, weights, limit, blocks, edges, wrong);
     if code != 0 {
         return ReportAnswer::Refused(code);

@@ -14,7 +14,8 @@ use Rattle.refusal.specs.Refusal.{given, first, firstFault}
 use Rattle.refusal.proofs.First.{first-none, first-pass, first-stop, first-last, given-none, unless-refused}
 use Rattle.words.specs.Word.{words}
 use Rattle.words.proofs.Bytes.{words-length}
-use Rattle.relabel.specs.Relabel.{badOrder, relabelled}
+use Rattle.permutation.specs.Order.{badOrder}
+use Rattle.relabel.specs.Relabel.{relabelled}
 use Rattle.partition.specs.Divide.{badLimits, tooHeavy}
 use Rattle.decimal.specs.Put.{Put}
 use Rattle.decimal.proofs.Runs.{put-front}

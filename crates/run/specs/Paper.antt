@@ -6,18 +6,21 @@ use mathlib.Core.List.{List, [], _∷_, _++_}
 use Prim.Native.Nat.{ℕ}
 use lib.ListN.{replicate}
 use Rattle.game.specs.Table.{tabulate, sum, count, member, filtered}
-use Rattle.game.specs.Edge.{lower, edges}
+use Rattle.game.specs.Edge.{lower, edges, touches}
 use Rattle.game.specs.Net.{owner, charge, weight, weights, netOf, reach}
 use Rattle.refusal.specs.Refusal.{given, first, unless, wrongLength, fault, firstFault}
-use Rattle.relabel.specs.Relabel.{badOrder, relabelled}
+use Rattle.permutation.specs.Order.{badOrder}
+use Rattle.relabel.specs.Relabel.{relabelled}
 use Rattle.partition.specs.Divide.{badLimits, tooHeavy, divided}
 use Rattle.sharing.specs.Share.{evenShare}
-use Rattle.cost.specs.Figures.{edgeBlock, edgeBlocks, touches, blocksAt, different, blockCount, isCut, bound, volume, boundOf, volumeOf, shareOf, totalsOf}
+use Rattle.meeting.specs.BlockCount.{edgeBlock, edgeBlocks, blocksAt, different, blockCount}
+use Rattle.cost.specs.Figures.{isCut, bound, volume, boundOf, volumeOf, shareOf, totalsOf}
 use Rattle.writing.specs.Written.{figures}
 use Rattle.words.specs.Word.{bytesOf, words, wordAt}
 use Rattle.decimal.specs.Ascii.{ascii}
 use Rattle.decimal.specs.Decimal.{decimal}
-use Rattle.printing.specs.Lines.{refusedText, spaced, newlined, parentText, lineText, rankText, linesBelow, shareText, totalsText}
+use Rattle.fields.specs.Line.{spaced, newlined, parentText, lineText}
+use Rattle.printing.specs.Lines.{refusedText, rankText, linesBelow, shareText, totalsText}
 use Rattle.files.specs.Files.{files, vertexCount, edgeCount, order, edgeList, limit, blocks}
 use Rattle.files.specs.Refused.{tooMany, partRecord, notRecords, fileRefusal}
 use Rattle.run.specs.Run.{rankedEdges, runNet, runRefusal}

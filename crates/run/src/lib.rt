@@ -4,4 +4,4 @@ mod running;
 pub use running::run;
 
 // The room of the text: a line to each vertex, and the last one.
-pub const TEXT: usize = printing::LINE * files::VERTICES + printing::TOTALS;
+pub const TEXT: usize = fields::LINE * files::VERTICES + printing::TOTALS;

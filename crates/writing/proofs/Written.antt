@@ -7,18 +7,20 @@ use native.Mathlib.Omega.{arith}
 use lib.ListN.{length, getD, replicate}
 use Rattle.game.specs.Table.{tabulate, sum}
 use Rattle.game.specs.Edge.{Edge}
-use Rattle.game.specs.Net.{Net, net, reach, weights}
+use Rattle.game.specs.Net.{Net, net, reach}
 use Rattle.game.proofs.Tables.{tabulate-length}
 use Rattle.refusal.specs.Refusal.{firstFault}
 use Rattle.refusal.proofs.Fault.{proper-faultless}
 use Rattle.bucket.specs.Filed.{Filed}
 use Rattle.growth.specs.Work.{Work, workOf, zeros, cleared}
 use Rattle.partition.specs.Divide.{DivisionTables, divisionOf, divided}
+use Rattle.slots.specs.Given.{lowerCounts}
 use Rattle.trimming.specs.Cut.{top}
 use Rattle.partition.specs.Steps.{Fitting}
 use Rattle.partition.proofs.Laws.{block-loads-sum}
 use Rattle.sharing.specs.Share.{evenShare}
-use Rattle.cost.specs.Figures.{edgeBlocks, blockCount, bound, boundOf, volumeOf, shareOf, totals, totalsOf}
+use Rattle.meeting.specs.BlockCount.{edgeBlocks, blockCount}
+use Rattle.cost.specs.Figures.{bound, boundOf, volumeOf, shareOf, totals, totalsOf}
 use Rattle.cost.specs.Steps.{ReportTables, summed}
 use Rattle.cost.specs.declared.Totals.{Totals}
 use Rattle.meeting.specs.Taken.{edgesTaken}
@@ -70,7 +72,7 @@ module _ {p w c t b l eb re bc en lo : List ℕ} {es : List Edge} {B : ℕ} (q :
     few = omega (arith, block-long, q .own .vertices);
     few-edges = q .own .few;
     filed = subst (λ (n : ℕ). Filed n es en lo) (sym block-long) (q .filed);
-    weighed = q .weighed ∙ ap (λ (n : ℕ). weights n es) (sym block-long);
+    counted = q .own .counts ∙ ap (λ (n : ℕ). lowerCounts n es) (sym block-long);
     some = omega (arith, q .division .some);
     small = omega (arith, q .division .few);
     blocks = λ x i. omega (arith, ap (λ (t : List ℕ). getD t x 0) block-is, block-below of B k (q .division .some) x (omega (arith, block-long)));

@@ -6,7 +6,7 @@ use Prim.Native.Nat.{ℕ}
 use lib.ListN.{length}
 use Rattle.game.specs.Table.{tabulate}
 use Rattle.game.specs.Edge.{Edge}
-use Rattle.game.specs.Net.{Net, net, weights, reach}
+use Rattle.game.specs.Net.{Net, net, reach}
 use Rattle.bucket.specs.Filed.{Filed}
 use Rattle.growth.specs.Work.{Work, cleared}
 use Rattle.partition.specs.Divide.{DivisionTables, divided}
@@ -20,7 +20,6 @@ use Rattle.writing.specs.Written.{Written, figures}
 -- What writing is given: a net that is the net of its edges, which are filed, that Divide accepts, and tables that fit.
 pub record Reportable (p w : List ℕ) (B : ℕ) (es : List Edge) (ends lower : List ℕ) (was : DivisionTables) (edgeBlocks reach blockCount : List ℕ) : Type 0 where
   pub own : Given p w es
-  pub weighed : w ≡ weights (length p) es
   pub filed : Filed (length p) es ends lower
   pub divisible : Divisible p w B
   pub division : Fitting (length p) was

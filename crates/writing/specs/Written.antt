@@ -10,7 +10,7 @@ use Rattle.game.specs.Table.{tabulate}
 use Rattle.game.specs.Edge.{Edge}
 use Rattle.game.specs.Net.{Net, reach}
 use Rattle.partition.specs.Divide.{DivisionTables, divided}
-use Rattle.cost.specs.Figures.{edgeBlocks, blockCount}
+use Rattle.meeting.specs.BlockCount.{edgeBlocks, blockCount}
 use Rattle.meeting.specs.Taken.{edgesTaken}
 
 -- what Report writes of a net: Divide's tables, and the figures of the edges and the vertices

@@ -10,10 +10,10 @@ code-requires : tie.Need-code-requires
 code-requires c κs = search needs
 
 same-length : tie.Need-same-length
-same-length c = search needs
+same-length c = c .before .before .before .before .before .index .kept .1 .1 .0
 
 same-length-2 : tie.Need-same-length-2
-same-length-2 c = search needs
+same-length-2 c = c .before .before .before .before .before .index .kept .1 .1 .1 .0
 
 returns : tie.Need-returns
 returns c = handed-as (c .code .ensures) (c .before .before .before .before .before .index .ensures)

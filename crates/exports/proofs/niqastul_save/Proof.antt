@@ -10,7 +10,7 @@ code-requires : tie.Need-code-requires
 code-requires c κs = search needs
 
 same-length : tie.Need-same-length
-same-length c = search needs
+same-length c = c .before .before .before .save .kept .1 .1 .0
 
 returns : tie.Need-returns
 returns c = handed-as (c .code .ensures) (c .before .before .before .save .ensures)

@@ -8,10 +8,10 @@ use Rattle.meeting.proofs.counting.count_at.Statement.{statement}
 use Rattle.meeting.proofs.counting.count_at.Tie as tie
 
 abbrev Inv-loop : tie.InvT-loop
-Inv-loop y weight lower block all stamps₀ stamp count₀ i₀ stamps count i = (stamp ≡ y + 1) × AtTurn all block y weight lower stamps count i
+Inv-loop y up lower block all stamps₀ stamp count₀ i₀ stamps count i = (stamp ≡ y + 1) × AtTurn all block y up lower stamps count i
 
 abbrev μ-loop : tie.MeasureT-loop
-μ-loop y weight lower block all stamps₀ stamp count₀ i₀ stamps count i = length lower - i
+μ-loop y up lower block all stamps₀ stamp count₀ i₀ stamps count i = length lower - i
 
 add-stamp : tie.Need-add-stamp Inv-loop μ-loop
 add-stamp c = search needs

@@ -8,10 +8,10 @@ use Rattle.meeting.proofs.counting.count_buckets.Statement.{statement}
 use Rattle.meeting.proofs.counting.count_buckets.Tie as tie
 
 abbrev Inv-loop : tie.InvT-loop
-Inv-loop weights block all ends lower block-count₀ edges-taken₀ pending₀ stamps₀ at₀ y₀ block-count edges-taken pending stamps at y = CountTurn all ends lower weights block block-count edges-taken pending stamps at y
+Inv-loop upward block all ends lower block-count₀ edges-taken₀ pending₀ stamps₀ at₀ y₀ block-count edges-taken pending stamps at y = CountTurn all ends lower upward block block-count edges-taken pending stamps at y
 
 abbrev μ-loop : tie.MeasureT-loop
-μ-loop weights block all ends lower block-count₀ edges-taken₀ pending₀ stamps₀ at₀ y₀ block-count edges-taken pending stamps at y = length ends - y
+μ-loop upward block all ends lower block-count₀ edges-taken₀ pending₀ stamps₀ at₀ y₀ block-count edges-taken pending stamps at y = length ends - y
 
 loop-holds : tie.Need-loop-holds Inv-loop μ-loop
 loop-holds c = turn-start (c .before .before .before .before .before .before .before .before .pre)
@@ -25,11 +25,11 @@ shared-slice-read-wide c = search needs
 wide-requires : tie.Need-wide-requires Inv-loop μ-loop
 wide-requires c κs = search needs
 
-mul-weight : tie.Need-mul-weight Inv-loop μ-loop
-mul-weight c = search needs
+mul-up : tie.Need-mul-up Inv-loop μ-loop
+mul-up c = search needs
 
-shared-slice-read-weight : tie.Need-shared-slice-read-weight Inv-loop μ-loop
-shared-slice-read-weight c = search needs
+shared-slice-read-up : tie.Need-shared-slice-read-up Inv-loop μ-loop
+shared-slice-read-up c = search needs
 
 cast-count-at : tie.Need-cast-count-at Inv-loop μ-loop
 cast-count-at c = search needs
@@ -59,7 +59,7 @@ sub-known-at : tie.Need-sub-known-at Inv-loop μ-loop
 sub-known-at c = turn-order (c .before .before .before .before .before .before .before .before .before .before .before .before .before .before .before .before .before .before .pre) (c .before .before .before .before .before .before .before .before .before .loop .inv) (c .before .before .before .before .before .before .before .before .loop-test .taken) (c .before .before .before .before .before .before .wide .ensures)
 
 known-at-requires : tie.Need-known-at-requires Inv-loop μ-loop
-known-at-requires c κs = (c .before .before .before .before .before .before .before .before .before .before .before .before .before .before .before .before .before .before .pre .light _ (c .before .before .before .before .before .before .before .before .loop-test .taken), turn-short (c .before .before .before .before .before .before .before .before .before .before .before .before .before .before .before .before .before .before .pre) (c .before .before .before .before .before .before .before .before .before .loop .inv) (c .before .before .before .before .before .before .before .before .loop-test .taken) (c .before .before .before .before .before .before .wide .ensures), turn-read (c .before .before .before .before .before .before .before .before .before .before .before .before .before .before .before .before .before .before .pre) (c .before .before .before .before .before .before .before .before .before .loop .inv) (c .before .before .before .before .before .before .before .before .loop-test .taken) (c .before .before .before .before .before .before .wide .ensures) (c .before .before .count-at .ensures))
+known-at-requires c κs = (c .before .before .before .before .before .before .before .before .before .before .before .before .before .before .before .before .before .before .pre .few-upward _ (c .before .before .before .before .before .before .before .before .loop-test .taken), turn-short (c .before .before .before .before .before .before .before .before .before .before .before .before .before .before .before .before .before .before .pre) (c .before .before .before .before .before .before .before .before .before .loop .inv) (c .before .before .before .before .before .before .before .before .loop-test .taken) (c .before .before .before .before .before .before .wide .ensures), turn-read (c .before .before .before .before .before .before .before .before .before .before .before .before .before .before .before .before .before .before .pre) (c .before .before .before .before .before .before .before .before .before .loop .inv) (c .before .before .before .before .before .before .before .before .loop-test .taken) (c .before .before .before .before .before .before .wide .ensures) (c .before .before .count-at .ensures))
 
 mul-edges-taken : tie.Need-mul-edges-taken Inv-loop μ-loop
 mul-edges-taken c = omega (arith, c .before .before .before .before .before .before .before .before .before .before .loop .inv .taken-long, c .before .before .before .before .before .before .before .before .before .before .before .before .before .before .before .before .before .before .before .pre .buckets .few)
@@ -107,8 +107,8 @@ count-buckets-spec =
     mul-wide
     shared-slice-read-wide
     wide-requires
-    mul-weight
-    shared-slice-read-weight
+    mul-up
+    shared-slice-read-up
     cast-count-at
     mul-count-at
     sub-count-at

@@ -1,4 +1,4 @@
-use Rattle.meeting.proofs.Passing.{known-fewer, known-one, known-read, known-later}
+use Rattle.meeting.proofs.Known.{known-fewer, known-one, known-read, known-later}
 use borrow.Author.Needs.{needs}
 use Rattle.meeting.proofs.counting.known_at.Statement.{statement}
 use Rattle.meeting.proofs.counting.known_at.Tie as tie

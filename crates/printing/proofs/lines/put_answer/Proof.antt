@@ -2,8 +2,8 @@ use mathlib.Core.Path.{ap}
 use borrow.Author.Needs.{needs}
 use Rattle.printing.proofs.lines.put_answer.Statement.{statement}
 use Rattle.printing.proofs.lines.put_answer.Tie as tie
-use Rattle.report.specs.Answer.{verdict}
-use Rattle.printing.proofs.Pieces.{put-accepted, put-refusal}
+use Rattle.cost.specs.Answer.{verdict}
+use Rattle.printing.proofs.Lined.{put-accepted, put-refusal}
 
 enum-known-answer : tie.Need-enum-known-answer
 enum-known-answer c = search needs

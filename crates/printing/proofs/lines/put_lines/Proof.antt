@@ -2,7 +2,7 @@ use Prim.Native.Nat.{_-_, _≤_}
 use lib.ListN.{length}
 use Rattle.decimal.proofs.Runs.{put-length}
 use Rattle.printing.specs.Lines.{rankText}
-use Rattle.printing.proofs.Pieces.{Lined, lined-none, line-room, lined-next, lined-all}
+use Rattle.printing.proofs.Lined.{Lined, lined-none, line-room, lined-next, lined-all}
 use borrow.Author.Needs.{needs}
 use Rattle.printing.proofs.lines.put_lines.Statement.{statement}
 use Rattle.printing.proofs.lines.put_lines.Tie as tie

@@ -3,7 +3,8 @@ use Rattle.printing.proofs.lines.put_refused.Statement.{statement}
 use Rattle.printing.proofs.lines.put_refused.Tie as tie
 use Rattle.decimal.specs.Ascii.{ascii}
 use Rattle.decimal.proofs.Runs.{put-on}
-use Rattle.printing.specs.Lines.{newlined, refusedText}
+use Rattle.fields.specs.Line.{newlined}
+use Rattle.printing.specs.Lines.{refusedText}
 
 slice-aggregate-put-text : tie.Need-slice-aggregate-put-text
 slice-aggregate-put-text c = search needs

@@ -1,7 +1,8 @@
 use Rattle.decimal.specs.Ascii.{ascii}
 use Rattle.decimal.proofs.Runs.{put-on}
-use Rattle.printing.specs.Lines.{spaced, newlined, shareText}
-use Rattle.printing.proofs.Pieces.{put-as}
+use Rattle.fields.specs.Line.{spaced, newlined}
+use Rattle.printing.specs.Lines.{shareText}
+use Rattle.fields.proofs.Pieces.{put-as}
 use borrow.Author.Needs.{needs}
 use Rattle.printing.proofs.lines.put_share.Statement.{statement}
 use Rattle.printing.proofs.lines.put_share.Tie as tie

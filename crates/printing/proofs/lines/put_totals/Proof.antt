@@ -1,6 +1,7 @@
 use Rattle.decimal.specs.Ascii.{ascii}
 use Rattle.decimal.proofs.Runs.{put-on}
-use Rattle.printing.specs.Lines.{spaced, totalsText}
+use Rattle.fields.specs.Line.{spaced}
+use Rattle.printing.specs.Lines.{totalsText}
 use borrow.Author.Needs.{needs}
 use Rattle.printing.proofs.lines.put_totals.Statement.{statement}
 use Rattle.printing.proofs.lines.put_totals.Tie as tie

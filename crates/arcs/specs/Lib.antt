@@ -1,0 +1,3 @@
+-- Edges seen from both of their ends.
+pub mod Arc
+pub mod Steps

@@ -1,0 +1,2 @@
+-- Laws of fields. Nothing here needs to be believed: it is all proved.
+pub mod Pieces

@@ -1,0 +1,3 @@
+-- The fields of a printed line.
+pub mod Line
+pub mod Steps

@@ -1,0 +1,2 @@
+-- What vertices wait for until their count ends.
+pub mod Steps
