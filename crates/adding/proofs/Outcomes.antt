@@ -26,7 +26,7 @@ use Rattle.rising.specs.Rising.{Takable}
 use Rattle.inserting.specs.Extending.{Extendable, Weighable, Extends}
 use Rattle.inserting.proofs.First.{first-links, list-weighs}
 use Rattle.adding.specs.Steps.{RisingFirst}
-use Rattle.adding.proofs.Accepted.{Addable}
+use Rattle.addable.proofs.Accepted.{Addable}
 
 module _ {p w e j l : List ℕ} {xs : List ℕ} (a : Addable (withWork (net p w) (workOf e j l)) xs) where
   -- the list can be taken in, whatever the table of ends has come to hold

@@ -2,21 +2,18 @@
 -- ties .. Only ties raise loads in adding". The old net is any sound table, whether it came from edges or not. Adding answers where the
 -- forest moved (document 02, Paper 2).
 -- Assumes nothing.
-use mathlib.Core.List.{List, [], _∷_, _++_, zipWith}
+use mathlib.Core.List.{List, _++_, zipWith}
 use Prim.Native.Nat.{ℕ, _+_}
-use lib.Dec.{ltb}
 use lib.ListN.{length}
 use Rattle.game.specs.Edge.{Edge, edges}
 use Rattle.game.specs.Game.{forest}
 use Rattle.game.specs.Tree.{links}
-use Rattle.game.specs.Net.{Net, weights, total, charges}
-use Rattle.refusal.specs.Limits.{maxTotal}
-use Rattle.refusal.specs.Refusal.{given, first, badCount, wrongLength, odd, firstFault}
+use Rattle.game.specs.Net.{Net, weights}
 use Rattle.refusal.specs.Outcome.{Outcome, decided}
-use Rattle.net.specs.Damage.{damaged}
 use Rattle.moving.specs.declared.Moved.{Moved}
 use Rattle.moving.specs.Moved.{moved}
-use Rattle.growth.specs.Work.{NetWithWork, badWork, cleared}
+use Rattle.growth.specs.Work.{NetWithWork, cleared}
+use Rattle.addable.specs.Refused.{addRefusal}
 
 -- a net with edges added
 unfoldable pub grown : Net → List Edge → Net
@@ -24,19 +21,6 @@ grown net es = record {
   parents = forest (length (net .parents)) (links (net .parents) ++ es);
   weights = zipWith _+_ (net .weights) (weights (length (net .parents)) es);
 }
-
-unfoldable pub addRefusal : NetWithWork → List ℕ → ℕ
-addRefusal g xs =
-    let n : ℕ = length (g .net .parents) in
-    first
-    (given (badCount n) 1
-    ∷ given (wrongLength (length (g .net .weights)) n) 2
-    ∷ given (odd xs) 2
-    ∷ given (badWork n (n + length (edges xs)) (g .work)) 2
-    ∷ given (damaged (g .net)) 30
-    ∷ firstFault n (edges xs)
-    ∷ given (ltb maxTotal (total (g .net) + charges (edges xs))) 20
-    ∷ [])
 
 unfoldable pub addOutcome : NetWithWork → List ℕ → Outcome Moved NetWithWork
 addOutcome g xs =

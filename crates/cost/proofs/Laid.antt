@@ -25,11 +25,12 @@ use Rattle.refusal.specs.Outcome.{decided}
 use Rattle.refusal.proofs.Fault.{proper-faultless}
 use Rattle.growth.specs.Work.{NetWithWork, withWork, badWork}
 use Rattle.starting.specs.Start.{startRefusal, startOutcome}
-use Rattle.adding.specs.Add.{grown, addRefusal, addOutcome}
+use Rattle.addable.specs.Refused.{addRefusal}
+use Rattle.adding.specs.Add.{grown, addOutcome}
 use Rattle.joinable.specs.Refused.{joinRefusal}
 use Rattle.joining.specs.Join.{joinOutcome}
 use Rattle.joinable.proofs.Accepted.{Joinable}
-use Rattle.adding.proofs.Accepted.{Addable}
+use Rattle.addable.proofs.Accepted.{Addable}
 use Rattle.growth.proofs.Whole.{room}
 use Rattle.forest.proofs.Passes.{start-passes, add-passes, join-passes}
 use Rattle.forest.proofs.Promise.{net-valid, valid-whole}

@@ -20,7 +20,7 @@ use Rattle.growth.specs.Lists.{ListFits}
 use Rattle.growth.specs.Work.{Work, workOf, withWork, cleared}
 use Rattle.starting.specs.Start.{startRefusal, startOutcome}
 use Rattle.adding.specs.Add.{addOutcome}
-use Rattle.adding.proofs.Accepted.{Addable}
+use Rattle.addable.proofs.Accepted.{Addable}
 use Rattle.forest.proofs.Passes.{start-passes, add-passes}
 use Rattle.forest.proofs.Promise.{valid-whole, net-valid}
 use Rattle.forest.proofs.Laws.{grown-net}

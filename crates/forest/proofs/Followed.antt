@@ -21,8 +21,9 @@ use Rattle.moving.specs.Followed.{Followed}
 use Rattle.moving.proofs.Followed.{followed}
 use Rattle.growth.specs.Work.{NetWithWork}
 use Rattle.growth.proofs.Whole.{Whole}
-use Rattle.adding.specs.Add.{grown, addRefusal, addOutcome}
-use Rattle.adding.proofs.Accepted.{addable}
+use Rattle.addable.specs.Refused.{addRefusal}
+use Rattle.adding.specs.Add.{grown, addOutcome}
+use Rattle.addable.proofs.Accepted.{addable}
 use Rattle.joinable.specs.Refused.{joinRefusal}
 use Rattle.joining.specs.Join.{joined, joinOutcome}
 use Rattle.joinable.proofs.Accepted.{joinable}

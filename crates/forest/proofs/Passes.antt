@@ -17,10 +17,10 @@ use Rattle.refusal.proofs.First.{pass, first-pass, first-end, right-length}
 use Rattle.net.specs.Damage.{damaged, damagedBy}
 use Rattle.growth.specs.Work.{Work, NetWithWork, badWork}
 use Rattle.starting.specs.Start.{startRefusal}
-use Rattle.adding.specs.Add.{addRefusal}
+use Rattle.addable.specs.Refused.{addRefusal}
 use Rattle.joinable.specs.Refused.{joinRefusal}
 use Rattle.joinable.proofs.Accepted.{Joinable}
-use Rattle.adding.proofs.Accepted.{Addable}
+use Rattle.addable.proofs.Accepted.{Addable}
 use Rattle.starting.proofs.Accepted.{Startable}
 use Rattle.growth.proofs.Whole.{Whole, Room}
 

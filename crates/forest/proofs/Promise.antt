@@ -29,12 +29,13 @@ use Rattle.moving.specs.declared.Moved.{Moved}
 use Rattle.sorting.proofs.Tallied.{zip-length}
 use Rattle.growth.specs.Work.{NetWithWork}
 use Rattle.starting.specs.Start.{startRefusal, startOutcome}
-use Rattle.adding.specs.Add.{grown, addRefusal, addOutcome}
+use Rattle.addable.specs.Refused.{addRefusal}
+use Rattle.adding.specs.Add.{grown, addOutcome}
 use Rattle.joinable.specs.Refused.{joinRefusal}
 use Rattle.joining.specs.Join.{joined, joinOutcome}
 use Rattle.forest.specs.Promise.{Valid}
 use Rattle.joinable.proofs.Accepted.{joinable}
-use Rattle.adding.proofs.Accepted.{addable}
+use Rattle.addable.proofs.Accepted.{addable}
 use Rattle.starting.proofs.Accepted.{startable}
 use Rattle.growth.proofs.Whole.{Whole}
 use Rattle.forest.proofs.Passes.{whole-undamaged}

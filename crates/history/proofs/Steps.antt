@@ -26,11 +26,12 @@ use Rattle.net.specs.Damage.{damaged}
 use Rattle.moving.specs.Moved.{moved}
 use Rattle.growth.specs.Work.{Work, NetWithWork, withWork, cleared}
 use Rattle.starting.specs.Start.{startRefusal, startOutcome}
-use Rattle.adding.specs.Add.{grown, addRefusal, addOutcome}
+use Rattle.addable.specs.Refused.{addRefusal}
+use Rattle.adding.specs.Add.{grown, addOutcome}
 use Rattle.joinable.specs.Refused.{joinRefusal}
 use Rattle.joining.specs.Join.{joined, joinOutcome}
 use Rattle.joinable.proofs.Accepted.{joinable}
-use Rattle.adding.proofs.Accepted.{addable}
+use Rattle.addable.proofs.Accepted.{addable}
 use Rattle.starting.proofs.Accepted.{startable}
 use Rattle.forest.proofs.Laws.{grown-net, joined-net}
 use Rattle.records.specs.LinkFile.{linkFile, fileNet}

@@ -13,7 +13,8 @@ use Rattle.moving.specs.declared.Moved.{Moved}
 use Rattle.moving.specs.Followed.{reread, Followed}
 use Rattle.growth.specs.Work.{NetWithWork, withWork}
 use Rattle.starting.specs.Start.{startRefusal, startOutcome}
-use Rattle.adding.specs.Add.{addRefusal, addOutcome}
+use Rattle.addable.specs.Refused.{addRefusal}
+use Rattle.adding.specs.Add.{addOutcome}
 use Rattle.joinable.specs.Refused.{joinRefusal}
 use Rattle.joining.specs.Join.{joinOutcome}
 use Rattle.reading.specs.Read.{readRefusal, readOutcome}

@@ -55,6 +55,5 @@ pub fn join(
     add_table(weights, other_weights);
     bucket::file_links(parents, other_parents, ends, lower);
     let lowest = growth::regrow(parents, ends, jump, lower);
-    let moved = moving::moved_at(lowest);
-    GrowthAnswer::Accepted(moved)
+    moving::accepted(lowest)
 }

@@ -1,6 +1,5 @@
 -- Laws of what lies between two vertices, by subject. Nothing here needs to be believed: it is all proved.
 pub mod Refused
-pub mod Told
 pub mod Outcome
 pub mod Own
 pub mod Walks

@@ -20,8 +20,9 @@ use Rattle.ancestry.specs.declared.Separator.{Separator}
 use Rattle.ancestry.specs.Answer.{separatorOf}
 use Rattle.ancestry.specs.Common.{commonAncestors, related, atFront}
 use Rattle.ancestry.specs.Steps.{listOutcome}
-use Rattle.separating.specs.Steps.{Told}
-use Rattle.separating.specs.Separate.{SeparateTables, separateTables, wrongSeparate, readRefusal, grownRefusal, separateRefusal, separateOutcome}
+use Rattle.own.specs.Steps.{Told}
+use Rattle.separable.specs.Refused.{readRefusal}
+use Rattle.separating.specs.Separate.{SeparateTables, separateTables, wrongSeparate, grownRefusal, separateRefusal, separateOutcome}
 
 module _ (of : Net) (a b : ℕ) (xs : List ℕ) (was : SeparateTables) where
   early : ℕ

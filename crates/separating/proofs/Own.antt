@@ -15,7 +15,8 @@ use Rattle.forest.proofs.Promise.{valid-undamaged}
 use Rattle.compare.specs.Compare.{listRefusal, unlike}
 use Rattle.compare.proofs.Refused.{list-not}
 use Rattle.compare.proofs.Sameness.{same-passes}
-use Rattle.separating.specs.Separate.{SeparateTables, wrongSeparate, readRefusal, grownRefusal, separateRefusal, separateOutcome}
+use Rattle.separable.specs.Refused.{readRefusal}
+use Rattle.separating.specs.Separate.{SeparateTables, wrongSeparate, grownRefusal, separateRefusal, separateOutcome}
 
 module _ (of : Net) (a b : ℕ) (xs : List ℕ) where
   read-not-23 : (wrong : Bool) → readRefusal of a b xs wrong ≡ 23 → ⊥

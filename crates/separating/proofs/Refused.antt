@@ -21,8 +21,9 @@ use Rattle.compare.specs.Compare.{wrongCompared}
 use Rattle.compare.proofs.Refused.{list-passed}
 use Rattle.compare.proofs.Ready.{ComparedLengths, compared-lengths, comparable}
 use Rattle.ancestry.specs.Steps.{Walkable}
-use Rattle.separating.specs.Steps.{Tellable}
-use Rattle.separating.specs.Separate.{SeparateTables, separateTables, wrongSeparate, readRefusal}
+use Rattle.own.specs.Steps.{Tellable}
+use Rattle.separable.specs.Refused.{readRefusal}
+use Rattle.separating.specs.Separate.{SeparateTables, separateTables, wrongSeparate}
 
 -- 2, by the lengths that the code compares
 pub wrong-lengths : (p w xs l cp cw e j lo : List ℕ) {o : Bool}
@@ -79,7 +80,3 @@ ready of a b xs was z =
       tells = record { compares = comparable of xs (was .compared) (was .work) (n .1) (l .weights) (l .compared) (list .0); some = n .0; even = l .even };
       faultless = list-passed (length (of .parents)) xs (list .0) .0;
     }
-
--- 4 of a rank, by the ranks as the code compares them
-pub rank-tests : (n a b : ℕ) {x y : ℕ} {t : Bool} → x ≡ a → y ≡ b → (leb n x || leb n y) ≡ t → (leb n a || leb n b) ≡ t
-rank-tests n a b e f h = rw (e, f) at h

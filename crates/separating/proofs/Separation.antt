@@ -27,7 +27,8 @@ use Rattle.ancestry.specs.Answer.{lowestOf, separatorOf}
 use Rattle.ancestry.specs.Steps.{Walkable}
 use Rattle.ancestry.proofs.Walk.{walkable-sound, walkable-few}
 use Rattle.ancestry.proofs.Common.{common-both, both-common, common-rising, climbs-common}
-use Rattle.separating.specs.Separate.{SeparateTables, wrongSeparate, readRefusal, grownRefusal, separateRefusal, separateOutcome}
+use Rattle.separable.specs.Refused.{readRefusal}
+use Rattle.separating.specs.Separate.{SeparateTables, wrongSeparate, grownRefusal, separateRefusal, separateOutcome}
 use Rattle.separating.specs.Separates.{Walk, root, Separates}
 use Rattle.separating.proofs.Refused.{Ready, ready}
 use Rattle.separating.proofs.Walks.{walk-climbs}

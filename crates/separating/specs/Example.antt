@@ -20,7 +20,8 @@ use Rattle.ancestry.specs.declared.Lowest.the-variants.{Vertex, Nothing}
 use Rattle.ancestry.specs.declared.Separator.{Separator}
 use Rattle.ancestry.specs.Common.{commonAncestors, related, atFront}
 use Rattle.ancestry.specs.Answer.{separator, lowestOf, separatorOf}
-use Rattle.separating.specs.Separate.{SeparateTables, separateTables, wrongSeparate, readRefusal, grownRefusal, separateRefusal, separateOutcome}
+use Rattle.separable.specs.Refused.{readRefusal}
+use Rattle.separating.specs.Separate.{SeparateTables, separateTables, wrongSeparate, grownRefusal, separateRefusal, separateOutcome}
 
 -- the list of the whole case with a fault, 5, in front
 faulty : List ℕ

@@ -1,5 +1,4 @@
 -- What lies between two vertices.
 pub mod Separate
 pub mod Separates
-pub mod Steps
 pub mod Example

@@ -10,19 +10,18 @@
 use mathlib.Core.Bool.{Bool, _||_}
 use mathlib.Core.List.{List, [], _∷_}
 use Prim.Native.Nat.{ℕ}
-use lib.Dec.{leb}
 use lib.ListN.{length}
 use Rattle.game.specs.Edge.{Edge, edges}
 use Rattle.game.specs.Net.{Net, netOf}
-use Rattle.refusal.specs.Refusal.{given, first, unless, badCount, wrongLength, odd}
+use Rattle.refusal.specs.Refusal.{given, first, unless, wrongLength, odd}
 use Rattle.refusal.specs.Verdict.{judged}
 use Rattle.refusal.specs.Outcome.{Outcome, ended}
-use Rattle.net.specs.Damage.{damaged}
 use Rattle.growth.specs.Work.{Work, cleared}
-use Rattle.compare.specs.Compare.{wrongCompared, listRefusal, unlike}
+use Rattle.compare.specs.Compare.{wrongCompared, unlike}
 use Rattle.ancestry.specs.Common.{commonAncestors, related, atFront}
 use Rattle.ancestry.specs.declared.Separator.{Separator}
 use Rattle.ancestry.specs.Answer.{separatorOf}
+use Rattle.separable.specs.Refused.{readRefusal}
 
 -- every table that the call is lent to write: the list's, the comparison tables, and the work tables
 pub record SeparateTables : Type 0 where
@@ -38,18 +37,6 @@ unfoldable pub wrongSeparate : Net → List ℕ → SeparateTables → Bool
 wrongSeparate of xs was =
     let n : ℕ = length (of .parents) in
     wrongLength (length (of .weights)) n || wrongLength (length (was .listed)) n || wrongCompared n (length (edges xs)) (was .compared) (was .work) || odd xs
-
--- what is decided by reading alone, or 0; `wrong` tells whether a length is wrong
-unfoldable pub readRefusal : Net → (a b : ℕ) → List ℕ → (wrong : Bool) → ℕ
-readRefusal of a b xs wrong =
-    let n : ℕ = length (of .parents) in
-    first
-    (given (badCount n) 1
-    ∷ given wrong 2
-    ∷ given (damaged of) 30
-    ∷ given (leb n a || leb n b) 4
-    ∷ listRefusal n xs
-    ∷ [])
 
 -- what is decided once the edges' net is grown, or 0
 unfoldable pub grownRefusal : Net → (a b : ℕ) → List Edge → ℕ

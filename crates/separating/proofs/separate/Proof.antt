@@ -4,7 +4,8 @@ use borrow.Author.Tests.{not-true, not-false}
 use Rattle.game.specs.Net.{net}
 use Rattle.growth.specs.Work.{workOf}
 use Rattle.ancestry.specs.Answer.{verdict}
-use Rattle.separating.specs.Separate.{separateTables, readRefusal}
+use Rattle.separable.specs.Refused.{readRefusal}
+use Rattle.separating.specs.Separate.{separateTables}
 use Rattle.separating.proofs.Refused.{wrong-lengths, lengths-right, ready}
 use Rattle.separating.proofs.Outcome.{ends-early, ends-late, ends-listed}
 use Rattle.separating.proofs.separate.Statement.{statement}

@@ -3,7 +3,7 @@ use native.Mathlib.Omega.{arith}
 use Rattle.moving.specs.Answer.{verdict}
 use Rattle.refusal.proofs.Ends.{ends-refused, ends-accepted}
 use Rattle.adding.specs.Add.{addOutcome}
-use Rattle.adding.proofs.Accepted.{addable}
+use Rattle.addable.proofs.Accepted.{addable}
 use Rattle.adding.proofs.Outcomes.{add-extendable, add-weighable, add-ends, add-moved, rising-takable, rising-extends}
 use Rattle.adding.proofs.Steps.{counted-light, list-decides, list-refused, list-counted, rising-passes}
 use borrow.Author.Needs.{needs}

@@ -48,8 +48,8 @@ regrow-requires c κs =
     let a = joinable _ _ (sym (c .before .before .before .before .before .before .before .before .before .before .before .before .before .before .before .before .before .join-refusal .ensures) ∙ c .before .before .before .before .before .before .before .before .before .before .before .before .before .before .before .before .if1 .left) in
     filed-growable (c .before .before .before .before .before .before .before .before .file-links .ensures) (a .net .few) refl (a .work .jump)
 
-moved-at-requires : tie.Need-moved-at-requires
-moved-at-requires c κs = search needs
+accepted-requires : tie.Need-accepted-requires
+accepted-requires c κs = search needs
 
 same-length-6 : tie.Need-same-length-6
 same-length-6 c = search needs
@@ -73,8 +73,8 @@ returns-2 c =
     let a = joinable _ _ z in
     let f : tie.After-file-links = c .before .before .before .before .before .before .before .before .before .before .before .before .before .before .before .before .before .before in
     let (g, d) = c .before .before .before .before .before .before .before .before .before .regrow .ensures in
-    ends-accepted _ _ _ _ (join-moved a (f .file-links .ensures) g d (c .moved-at .ensures)) z
-    (join-ends a (f .file-links .ensures) g (c .before .before .before .before .before .before .before .before .before .before .before .before .before .before .before .before .before .before .before .before .before .before .before .before .add-table .ensures) (f .file-links .kept .1 .1 .0) (f .file-links .kept .1 .1 .1 .0))
+    rw (c .accepted .ensures) (ends-accepted _ _ _ _ (join-moved a (f .file-links .ensures) g d refl) z
+    (join-ends a (f .file-links .ensures) g (c .before .before .before .before .before .before .before .before .before .before .before .before .before .before .before .before .before .before .before .before .before .before .before .before .add-table .ensures) (f .file-links .kept .1 .1 .0) (f .file-links .kept .1 .1 .1 .0)))
 
 pub join-spec : {M : Type 1} → statement M
 join-spec =
@@ -90,7 +90,7 @@ join-spec =
     add-table-requires
     file-links-requires
     regrow-requires
-    moved-at-requires
+    accepted-requires
     same-length-6
     same-length-7
     same-length-8

@@ -1,7 +1,7 @@
 use borrow.Author.Needs.{needs}
-use Rattle.separating.proofs.Told.{told-lengths, told}
-use Rattle.separating.proofs.is_own.Statement.{statement}
-use Rattle.separating.proofs.is_own.Tie as tie
+use Rattle.own.proofs.Told.{told-lengths, told}
+use Rattle.own.proofs.is_own.Statement.{statement}
+use Rattle.own.proofs.is_own.Tie as tie
 
 start-requires : tie.Need-start-requires
 start-requires c κs = search needs

@@ -3,11 +3,11 @@ use mathlib.Core.Path.{sym, _∙_}
 use Rattle.refusal.proofs.First.{pass, stop, right-length, wrong-length, even-list, odd-list, good-count}
 use Rattle.net.proofs.Scan.{undamaged}
 use Rattle.growth.proofs.Tests.{work-length, damage}
-use Rattle.adding.specs.Add.{addRefusal}
-use Rattle.adding.proofs.Steps.{tables-refused, tables-right, heavy-told, light-few}
+use Rattle.addable.specs.Refused.{addRefusal}
+use Rattle.addable.proofs.Steps.{tables-refused, tables-right, heavy-told, light-few}
 use borrow.Author.Needs.{needs}
-use Rattle.adding.proofs.adding.read_tables.Statement.{statement}
-use Rattle.adding.proofs.adding.read_tables.Tie as tie
+use Rattle.addable.proofs.read_tables.Statement.{statement}
+use Rattle.addable.proofs.read_tables.Tie as tie
 
 bad-count-requires : tie.Need-bad-count-requires
 bad-count-requires c κs = search needs

@@ -1,9 +1,9 @@
 use mathlib.Core.Path.{sym, _∙_}
 use Rattle.refusal.proofs.First.{pass, stop, first-end, first-pass, first-stop}
-use Rattle.adding.proofs.Steps.{counted-read, list-read}
+use Rattle.addable.proofs.Steps.{counted-read, list-read}
 use borrow.Author.Needs.{needs}
-use Rattle.adding.proofs.adding.read_list.Statement.{statement}
-use Rattle.adding.proofs.adding.read_list.Tie as tie
+use Rattle.addable.proofs.read_list.Statement.{statement}
+use Rattle.addable.proofs.read_list.Tie as tie
 
 count-upper-requires : tie.Need-count-upper-requires
 count-upper-requires c κs =

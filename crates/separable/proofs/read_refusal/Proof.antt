@@ -3,10 +3,10 @@ use mathlib.Core.Path.{sym, _∙_}
 use borrow.Author.Needs.{needs}
 use Rattle.refusal.proofs.First.{pass, stop, first-last, good-count}
 use Rattle.growth.proofs.Tests.{damage}
-use Rattle.separating.specs.Separate.{readRefusal}
-use Rattle.separating.proofs.Refused.{rank-tests}
-use Rattle.separating.proofs.read_refusal.Statement.{statement}
-use Rattle.separating.proofs.read_refusal.Tie as tie
+use Rattle.separable.specs.Refused.{readRefusal}
+use Rattle.separable.proofs.Ranks.{rank-tests}
+use Rattle.separable.proofs.read_refusal.Statement.{statement}
+use Rattle.separable.proofs.read_refusal.Tie as tie
 
 bad-count-requires : tie.Need-bad-count-requires
 bad-count-requires c κs = search needs

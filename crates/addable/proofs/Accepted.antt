@@ -12,7 +12,7 @@ use Rattle.refusal.specs.Limits.{maxTotal}
 use Rattle.refusal.specs.Refusal.{firstFault, odd}
 use Rattle.refusal.proofs.First.{first-none, given-none}
 use Rattle.growth.specs.Work.{NetWithWork}
-use Rattle.adding.specs.Add.{addRefusal}
+use Rattle.addable.specs.Refused.{addRefusal}
 use Rattle.growth.proofs.Whole.{Whole, Room, whole, room}
 
 pub record Addable (g : NetWithWork) (xs : List ℕ) : Type 0 where

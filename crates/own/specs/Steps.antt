@@ -1,4 +1,4 @@
--- What the steps of the call promise each other. No public contract cites this.
+-- What telling a net's own edges asks and promises. No public contract cites this.
 -- Assumes nothing.
 use mathlib.Core.Path.{_≡_}
 use mathlib.Core.Bool.{Bool}

@@ -1,0 +1,3 @@
+-- What adding is refused for.
+pub mod Refused
+pub mod Steps

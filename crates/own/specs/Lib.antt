@@ -1,0 +1,2 @@
+-- What telling a net's own edges asks and promises.
+pub mod Steps
