@@ -3,19 +3,12 @@ crates and runs the tests from outside (tests/run). The library is built as soon
 begin as soon as every crate is proved, beside the edits: they write only the library and their own files, and rt ci removes target/ at
 its start alone. What the tests need is installed meanwhile. The last line is 'N passed, M failed', of both together."""
 
-import os
 import queue
 import signal
 import subprocess
 import sys
 
-from progress import ROOT, Proving, Step, say
-
-
-# rt starts crates and edits in batches and waits for the slowest of each, so that two processors are kept busy by twice as many
-os.environ.setdefault("RT_JOBS", str(min(8, 2 * (os.cpu_count() or 1))))
-# the prover's allocator keeps what it freed: to hand it back and fault it in again is a tenth of the time of the largest crates
-os.environ.setdefault("MIMALLOC_PURGE_DELAY", "-1")
+from progress import ROOT, Proving, Step, proving_environment, say
 
 
 def toolchain():
@@ -30,18 +23,19 @@ def formatted():
     return subprocess.run(["rt", "fmt", "--check"], cwd=ROOT).returncode == 0
 
 
-def run(steps):
-    """Runs the steps, each as soon as what it needs is there, and shows what they say; `steps` gets each as it is begun."""
+def run(steps, environment):
+    """Runs the steps, each as soon as what it needs is there, and shows what they say; `steps` gets each as it is begun. Those that prove
+    are run in the environment."""
     lines = queue.Queue()
     proving = Proving([], with_edits=True)
     running = set()
 
-    def begin(name, *command):
-        steps[name] = Step(list(command), lines)
+    def begin(name, command, its_environment=None):
+        steps[name] = Step(command, lines, its_environment)
         running.add(steps[name])
 
-    begin("rt ci", "rt", "ci")
-    begin("tests/install", "tests/install")
+    begin("rt ci", ["rt", "ci"], environment)
+    begin("tests/install", ["tests/install"])
     while running:
         try:
             step, line = lines.get(timeout=1)
@@ -59,10 +53,10 @@ def run(steps):
             step.last = line
             say(f"tests: {line}")
         if "tests/build" not in steps and proving.verdicts.get("exports"):
-            begin("tests/build", "tests/build")
+            begin("tests/build", ["tests/build"], environment)
         preparing = {steps.get("tests/install"), steps.get("tests/build")} & running
         if "tests/run" not in steps and not preparing and (proving.proved() or steps["rt ci"] not in running):
-            begin("tests/run", "tests/run")
+            begin("tests/run", ["tests/run"])
 
 
 def main():
@@ -73,15 +67,18 @@ def main():
     steps = {}
     passed, failed = 0, 1
     try:
-        run(steps)
+        with proving_environment() as environment:
+            try:
+                run(steps, environment)
+            finally:
+                for step in steps.values():
+                    step.stop()
         for name, step in steps.items():
             if step.process.returncode not in (0, 1):
                 say(f"{name} ended with status {step.process.returncode}")
         counts = [steps[name].counts() for name in ("rt ci", "tests/run")]
         passed, failed = sum(count[0] for count in counts), sum(count[1] for count in counts)
     finally:
-        for step in steps.values():
-            step.stop()
         say(f"{passed} passed, {failed} failed")
     return 1 if failed else 0
 

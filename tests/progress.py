@@ -5,18 +5,23 @@ shown in full, and everything is kept in target/log/.
     python3 tests/progress.py rt check NAME     runs this and shows how far it is
 """
 
+import contextlib
 import os
 import queue
 import re
+import shutil
 import signal
 import subprocess
 import sys
+import tempfile
 import threading
 import time
 from pathlib import Path
 
 ROOT = Path(__file__).resolve().parent.parent
 TARGET = ROOT / "target"
+MEMORY = "/dev/shm"
+GIGABYTE = 1 << 30
 
 CRATE = re.compile(r"rt: (\w+) (proved(?!,)|NOT PROVED)(.*)")
 EDIT = re.compile(r"rt: must-fail (\w+/\S+): (.*)")
@@ -53,15 +58,49 @@ def say(line):
     print(line, flush=True)
 
 
+def jobs():
+    """How many crates or edits rt begins at a time. It begins them in batches and waits for the slowest of each, so that a processor idles
+    at the end of a batch: few large batches are better than many small ones, where there is memory for them."""
+    memory = os.sysconf("SC_PAGE_SIZE") * os.sysconf("SC_PHYS_PAGES")
+    return max(1, min(8, 4 * (os.cpu_count() or 1), memory // (2 * GIGABYTE)))
+
+
+def folder_in_memory():
+    """A new folder in memory, or None. For each crate and edit the prover lays out what is proved of every crate below, thousands of small
+    files, and removes them again: on a disk that is a tenth of its time."""
+    try:
+        room = os.statvfs(MEMORY)
+        if room.f_flag & os.ST_NOEXEC or room.f_bavail * room.f_frsize < 2 * GIGABYTE:
+            return None
+        folder = tempfile.mkdtemp(prefix="niqastul-", dir=MEMORY)
+        os.chmod(folder, 0o711)  # rt runs programs from a folder in it, as nobody
+        return folder
+    except OSError:
+        return None
+
+
+@contextlib.contextmanager
+def proving_environment():
+    """The environment in which rt is quickest; what the caller's has of it stays."""
+    folder = folder_in_memory()
+    # the prover's allocator keeps what it freed: to hand it back and fault it in again takes time in the largest crates
+    ours = {"RT_JOBS": str(jobs()), "MIMALLOC_PURGE_DELAY": "-1", **({"TMPDIR": folder} if folder else {})}
+    try:
+        yield {**ours, **os.environ}
+    finally:
+        if folder:
+            shutil.rmtree(folder, ignore_errors=True)
+
+
 class Step:
     """A command that runs beside others. Its lines go to a queue, as pairs of the step and a line; None is its end."""
 
-    def __init__(self, command, lines):
+    def __init__(self, command, lines, environment=None):
         self.last = ""
         self.lines = lines
         # a session of its own, so that it can be stopped with all that it started
         self.process = subprocess.Popen(command, cwd=ROOT, stdout=subprocess.PIPE, stderr=subprocess.STDOUT, text=True, errors="replace",
-                                        start_new_session=True)
+                                        env=environment, start_new_session=True)
         threading.Thread(target=self.read, daemon=True).start()
 
     def read(self):
@@ -157,20 +196,21 @@ def main(command):
     lines = queue.Queue()
     proving = Proving(command[2:], with_edits=False)
     say(f"{len(proving.crates)} crates to prove: {' '.join(name for name in crates() if name in proving.crates)}")
-    step = Step(command, lines)
-    try:
-        while True:
-            try:
-                _, line = lines.get(timeout=1)
-            except queue.Empty:
-                proving.show_begun()
-                continue
-            if line is None:
-                proving.end()
-                return step.process.returncode
-            proving.line(line)
-    finally:
-        step.stop()
+    with proving_environment() as environment:
+        step = Step(command, lines, environment)
+        try:
+            while True:
+                try:
+                    _, line = lines.get(timeout=1)
+                except queue.Empty:
+                    proving.show_begun()
+                    continue
+                if line is None:
+                    proving.end()
+                    return step.process.returncode
+                proving.line(line)
+        finally:
+            step.stop()
 
 
 if __name__ == "__main__":

@@ -50,6 +50,53 @@ def whole_case_run(t):
         t.same(run(t, *files), f"refused {number}\n")
 
 
+FOREIGN = file_of(9, 9)
+
+# files that one run is given, and what it prints: of two reasons for a refusal the first by document 01's order
+LIMIT_3 = """0 3 2 3 2 0 0 1
+1 0 3 2 2 5 1 1
+2 1 4 1 2 5 1 2
+3 2 4 0 1 5 1 1
+4 4 5 0 1 5 1 2
+5 5 - 0 0 5 1 1
+bound 2 volume 2 share 3 0
+"""
+ONE_BLOCK = """0 3 2 3 2 2 0 1
+1 0 3 2 2 5 0 1
+2 1 4 1 2 2 0 1
+3 2 4 0 1 5 0 1
+4 4 5 0 1 5 0 1
+5 5 - 0 0 5 0 1
+bound 2 volume 0 share 6 0
+"""
+RUNS = {
+    "limit 4, 2 blocks": (file_of(*ORDER), file_of(*TIES), file_of(4, 2), WHOLE_CASE),
+    "limit 3": (file_of(*ORDER), file_of(*TIES), file_of(3, 2), LIMIT_3),
+    "1 block": (file_of(*ORDER), file_of(*TIES), file_of(4, 1), ONE_BLOCK),
+    "one vertex, no edge": (file_of(0), b"", file_of(1, 1), "0 0 - 0 0 0 0 0\nbound 0 volume 0 share 0 0\n"),
+    "no vertex": (b"", FOREIGN, b"", "refused 1\n"),
+    "part of a vertex": (bytes(3), FOREIGN, b"", "refused 1\n"),
+    "1,001 vertices": (bytes(4_004), FOREIGN, b"", "refused 2\n"),
+    "4,001 edges": (file_of(*ORDER), bytes(32_008), b"", "refused 2\n"),
+    "a byte behind 1,000 vertices": (bytes(4_001), FOREIGN, b"", "refused 6\n"),
+    "one edge and a half": (bytes(8), bytes(12), bytes(8), "refused 6\n"),
+    "no limits": (bytes(8), FOREIGN, b"", "refused 6\n"),
+    "an order that repeats": (bytes(8), FOREIGN, bytes(8), "refused 3\n"),
+    "limit 0": (file_of(*ORDER), FOREIGN, file_of(0, 2), "refused 8\n"),
+    "1,001 blocks": (file_of(*ORDER), FOREIGN, file_of(4, 1001), "refused 8\n"),
+    "vertex 9": (file_of(*ORDER), FOREIGN, file_of(1, 2), "refused 4\n"),
+    "one vertex twice": (file_of(*ORDER), file_of(1, 1, 9, 9), file_of(1, 2), "refused 5\n"),
+    "limit 2": (file_of(*ORDER), file_of(*TIES), file_of(2, 2), "refused 22\n"),
+}
+
+
+@test(at_least=34, given=THERE)
+def printed_runs(t):
+    """Runs whose whole text is written down here, not only the oracle's."""
+    for name, (marks, ties, want, text) in RUNS.items():
+        t.same(run(t, marks, ties, want, name), text, name)
+
+
 @test(at_least=30, given=THERE)
 def capacities(t):
     """1,000 marks and 4,000 ties are taken, one more of either is 2, and part of a record more is 6."""
