@@ -51,6 +51,39 @@ processors that nothing else uses.
 """
 
 
+def several_edges(row):
+    return row[3] >= 2 * row[2]
+
+
+def survey(row):
+    return row[1].startswith(("grid, nested", "grid, row", "scattered"))
+
+
+# what was set out to be reached on the largest nets: in words, what is measured, beside which columns (the better of them), on which nets, at most
+GOALS = (
+    ("growing, several edges to a vertex ÷ the better of the peer's routes", "grow", ("SuiteSparse", "cs_compress"), several_edges, 1.0),
+    ("growing, one edge to a vertex ÷ the better of the peer's routes", "grow", ("SuiteSparse", "cs_compress"), lambda row: not several_edges(row), 1.25),
+    ("adding 100 edges to a survey net ÷ one pass over its tables", "add 100", ("one pass",), survey, 2.0),
+    ("relabelling ÷ C that makes the same checks", "relabel", ("checked C",), None, 1.2),
+    ("dividing into 16 blocks ÷ plain C", "divide 16", ("plain C",), None, 1.2),
+    ("dividing into 1,000 blocks ÷ plain C", "divide 1000", ("plain C",), None, 1.2),
+    ("reporting on 16 blocks ÷ the peer's tree and column counts", "report 16", ("SuiteSparse",), None, 1.3),
+    ("reporting on 2 blocks ÷ the peer's tree and column counts", "report 2", ("SuiteSparse",), None, 1.3),
+)
+
+
+def goals(rows):
+    """A row for each goal: its bound, the least and the greatest ratio on the largest nets, and the net of the greatest."""
+    most = max(row[2] for row in rows)
+    lines = ["| goal | at most | reached | most on |", "|---|--:|--:|---|"]
+    for words, what, columns, among, bound in GOALS:
+        ratios = sorted((row[4]["niqastul"] / min(row[4][column] for column in columns), row[1])
+                        for row in rows if row[0] == what and row[2] * 1.1 > most and (among is None or among(row)))
+        if ratios:
+            lines.append(f"| {words} | {bound:g} | {ratios[0][0]:.2f} to **{ratios[-1][0]:.2f}** | {ratios[-1][1]} |")
+    return "\n".join(lines) + "\n"
+
+
 def rows_of(path):
     for line in open(path):
         what, family, vertices, edges, *pairs = line.rstrip("\n").split("\t")
@@ -140,7 +173,7 @@ def processor():
 def main(results, folder):
     rows, folder = list(rows_of(results)), pathlib.Path(folder)
     page = ["# Measurements\n", PEERS, f"Machine: {processor()}, {platform.system()} {platform.release()}.\n",
-            "The last column is the factor from a net a tenth as large, the peer's in brackets.\n"]
+            "The last column is the factor from a net a tenth as large, the peer's in brackets.\n", "## Goals\n", goals(rows)]
     for what, (heading, name, against) in MEASURED.items():
         here = [row for row in rows if row[0] == what]
         if here:
