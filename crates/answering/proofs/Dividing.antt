@@ -9,7 +9,7 @@ use lib.ListN.{length}
 use Rattle.game.specs.Edge.{edges}
 use Rattle.game.specs.Net.{Net, net, netOf}
 use Rattle.relabel.specs.Relabel.{relabelled}
-use Rattle.partition.specs.Divide.{badLimits}
+use Rattle.limits.specs.DivisionLimits.{badLimits}
 use Rattle.decimal.specs.Put.{Put}
 use Rattle.answering.specs.Steps.{Runnable, Grown, Ready, netText}
 use Rattle.answering.proofs.Growing.{ranked-count, ranked-even, ranked-faultless}

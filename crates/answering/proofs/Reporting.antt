@@ -21,7 +21,8 @@ use Rattle.refusal.proofs.First.{pass, first-pass, first-last, right-length, ev
 use Rattle.refusal.proofs.Fault.{faultless-proper}
 use Rattle.net.specs.Damage.{damagedBy, damaged}
 use Rattle.growth.specs.Work.{badWork}
-use Rattle.partition.specs.Divide.{tooHeavy, wrongTables}
+use Rattle.limits.specs.DivisionLimits.{tooHeavy}
+use Rattle.partition.specs.Divide.{wrongTables}
 use Rattle.decimal.specs.Put.{Put}
 use Rattle.cost.specs.declared.Totals.{Totals}
 use Rattle.cost.specs.Figures.{totalsOf}

@@ -11,9 +11,9 @@ use Rattle.game.specs.Edge.{edges}
 use Rattle.game.specs.Net.{Net, net}
 use Rattle.game.proofs.Edges.{edges-length}
 use Rattle.growth.specs.Work.{workOf}
-use Rattle.partition.specs.Divide.{badLimits, divisionOf}
-use Rattle.packing.specs.Pack.{maxBlocks}
-use Rattle.partition.proofs.Refused.{limits-not}
+use Rattle.limits.specs.DivisionLimits.{maxBlocks, badLimits}
+use Rattle.limits.proofs.DivisionLimits.{limits-not}
+use Rattle.partition.specs.Divide.{divisionOf}
 use Rattle.writing.specs.Written.{written}
 use Rattle.report.specs.Report.{lent}
 use Rattle.files.specs.Files.{vertexCapacity, edgeCapacity}

@@ -10,7 +10,7 @@ use Rattle.game.specs.Net.{Net, netOf}
 use Rattle.refusal.specs.Refusal.{given, firstFault}
 use Rattle.permutation.specs.Order.{badOrder}
 use Rattle.relabel.specs.Relabel.{relabelled}
-use Rattle.partition.specs.Divide.{badLimits, tooHeavy}
+use Rattle.limits.specs.DivisionLimits.{badLimits, tooHeavy}
 use Rattle.fields.specs.Steps.{lineRoom}
 use Rattle.printing.specs.Steps.{totalsRoom}
 use Rattle.files.specs.Files.{vertexCapacity, edgeCapacity}

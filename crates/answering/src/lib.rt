@@ -12,12 +12,12 @@ ghost use lib.ListN.{length};
 ghost use Rattle.game.specs.Edge.{edges as edgesOf};
 ghost use Rattle.game.specs.Net.{net};
 ghost use Rattle.decimal.specs.Put.{Put};
-ghost use Rattle.partition.specs.Divide.{badLimits};
+ghost use Rattle.limits.specs.DivisionLimits.{badLimits};
 ghost use Rattle.relabel.specs.Relabel.{relabelled};
 ghost use Rattle.answering.specs.Steps.{Runnable, GrowRoom, Grown, Ready, netText, textRoom};
 
 // The most blocks of a division.
-const BLOCKS: usize = packing::MAX_BLOCKS as usize;
+const BLOCKS: usize = limits::MAX_BLOCKS as usize;
 
 // Vertices and edges together.
 const BOTH: usize = VERTICES + EDGES;

@@ -10,7 +10,7 @@ use lib.ListN.{length}
 use Rattle.game.specs.Net.{Net}
 use Rattle.refusal.specs.Refusal.{given, first, badCount}
 use Rattle.net.specs.Damage.{damaged}
-use Rattle.partition.specs.Divide.{badLimits, tooHeavy}
+use Rattle.limits.specs.DivisionLimits.{badLimits, tooHeavy}
 use Rattle.compare.specs.Compare.{listRefusal}
 
 -- the number for which Report is refused early, or 0; `wrong` tells whether a length is wrong

@@ -87,7 +87,7 @@ pub fn early_refusal(
     if wrong {
         return 2;
     }
-    if partition::bad_limits(limit, blocks) {
+    if limits::bad_limits(limit, blocks) {
         return 8;
     }
     if Net::of(weights).is_damaged(parents) {
@@ -97,7 +97,7 @@ pub fn early_refusal(
     if list != 0 {
         return list;
     }
-    if partition::too_heavy(limit, weights) {
+    if limits::too_heavy(limit, weights) {
         return 22;
     }
     0

@@ -12,7 +12,7 @@ use lib.ListN.{length}
 use Rattle.game.specs.Edge.{edges}
 use Rattle.refusal.specs.Refusal.{given, first, wrongLength, firstFault}
 use Rattle.permutation.specs.Order.{badOrder}
-use Rattle.partition.specs.Divide.{badLimits}
+use Rattle.limits.specs.DivisionLimits.{badLimits}
 use Rattle.files.specs.Files.{Files, vertexCount, edgeCount, order, edgeList, limit, blocks, vertexCapacity, edgeCapacity}
 
 -- 2: "more of either"

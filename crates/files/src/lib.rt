@@ -4,7 +4,7 @@ ghost use mathlib.Core.List.{[], _∷_};
 ghost use Prim.Native.Nat.{_*_, _/_, _≤_};
 ghost use lib.ListN.{length};
 ghost use Rattle.refusal.specs.Refusal.{first, given};
-ghost use Rattle.partition.specs.Divide.{badLimits};
+ghost use Rattle.limits.specs.DivisionLimits.{badLimits};
 ghost use Rattle.words.specs.Word.{words};
 ghost use Rattle.files.specs.Files.{files as filesOf, vertexCapacity};
 ghost use Rattle.files.specs.Steps.{sizeRefusal, contentRefusal, Sized, Loaded, Decided, endCapacity};
@@ -70,7 +70,7 @@ fn first_of(one: u32, other: u32) -> u32
 fn limit_refusal(limit: u32, blocks: u32) -> u32
     ensures { λ r. ⌜ r ≡ given (badLimits limit blocks) 8 ⌝ }
 {
-    if partition::bad_limits(limit, blocks) {
+    if limits::bad_limits(limit, blocks) {
         return 8;
     }
     0

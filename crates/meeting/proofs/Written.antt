@@ -18,7 +18,7 @@ use Rattle.bucket.proofs.Reading.{filed-consecutive, filed-holds}
 use Rattle.sorting.proofs.Counts.{count-le}
 use Rattle.sorting.proofs.Keys.{key-le, below-zero, below-le}
 use Rattle.sorting.proofs.Values.{values-length}
-use Rattle.packing.specs.Pack.{maxBlocks}
+use Rattle.limits.specs.DivisionLimits.{maxBlocks}
 use Rattle.meeting.specs.BlockCount.{blocksAt, blockCount}
 use Rattle.meeting.specs.Taken.{edgesTaken}
 use Rattle.waiting.specs.Steps.{waits, Sweepable, Swept}

@@ -12,7 +12,7 @@ use Rattle.refusal.specs.Limits.{maxVertices, maxEdges}
 use Rattle.sorting.specs.Sorted.{bucketOf}
 use Rattle.bucket.specs.Filed.{Consecutive, Filed}
 use Rattle.slots.specs.Given.{lowerCounts}
-use Rattle.packing.specs.Pack.{maxBlocks}
+use Rattle.limits.specs.DivisionLimits.{maxBlocks}
 use Rattle.waiting.specs.Steps.{unmet}
 use Rattle.meeting.specs.BlockCount.{different, blockCount}
 use Rattle.meeting.specs.Taken.{edgesTaken}

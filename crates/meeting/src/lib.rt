@@ -11,7 +11,7 @@ ghost use Rattle.game.specs.Edge.{edges as edgesOf};
 ghost use Rattle.meeting.specs.Steps.{Countable, Writes};
 
 // A stamp for each block.
-const STAMPS: usize = packing::MAX_BLOCKS as usize;
+const STAMPS: usize = limits::MAX_BLOCKS as usize;
 
 // Writes for each vertex how many different ones of `all` blocks it meets, and how many of its edges that takes, from edges that are
 // filed by their upper end. `pending` is a work table.

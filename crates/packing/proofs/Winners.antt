@@ -9,7 +9,8 @@ use native.Mathlib.Decide.{ℕ-discrete, decLt}
 use native.Mathlib.Omega.{arith}
 use lib.ListN.{length, getD, set, replicate, length-set, length-replicate, getD-replicate}
 use lib.Seq.{getD-set-same, getD-set-other}
-use Rattle.packing.specs.Pack.{maxBlocks, lightest}
+use Rattle.limits.specs.DivisionLimits.{maxBlocks}
+use Rattle.packing.specs.Pack.{lightest}
 use Rattle.packing.specs.Steps.{key, Lower, Tournament, Outdated}
 use Rattle.packing.proofs.BlockLoads.{lightest-found}
 

@@ -11,10 +11,6 @@ use lib.ListN.{length, getD, set, replicate}
 use Rattle.game.specs.Table.{tabulate}
 use Rattle.trimming.specs.Cut.{best}
 
--- "k not 1 to 1,000"
-abbrev pub maxBlocks : ℕ
-maxBlocks = 1_000
-
 -- "the block with the least load so far, of equals the lowest number"
 unfoldable pub lightest : List ℕ → ℕ
 unfolding best tabulate

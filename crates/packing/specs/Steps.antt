@@ -9,7 +9,8 @@ use lib.Dec.{eqb, ltb}
 use lib.ListN.{length, getD, replicate}
 use Rattle.game.specs.Table.{tabulate, sum, filtered}
 use Rattle.refusal.specs.Limits.{maxTotal}
-use Rattle.packing.specs.Pack.{loadsBelow, blockOf, maxBlocks}
+use Rattle.limits.specs.DivisionLimits.{maxBlocks}
+use Rattle.packing.specs.Pack.{loadsBelow, blockOf}
 
 -- What packing is given: tables of one length, at least one block, and groups that come to no more than a net's total.
 pub record Packable (tops carriedNow block loads : List ℕ) : Type 0 where

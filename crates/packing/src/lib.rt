@@ -3,6 +3,3 @@ mod packing;
 mod tournament;
 
 pub use packing::assign;
-
-// The largest number of blocks.
-pub const MAX_BLOCKS: u32 = 1_000;

@@ -11,7 +11,8 @@ use Rattle.game.specs.Game.{absent}
 use Rattle.game.proofs.Sound.{Sound, sound-true}
 use Rattle.game.proofs.Tables.{tabulate-length, tabulate-entry}
 use Rattle.trimming.specs.Cut.{carried, cut, top, isTop}
-use Rattle.packing.specs.Pack.{loadsBelow, blockOf, maxBlocks}
+use Rattle.limits.specs.DivisionLimits.{maxBlocks}
+use Rattle.packing.specs.Pack.{loadsBelow, blockOf}
 use Rattle.game.specs.Net.{net}
 use Rattle.partition.specs.Divide.{divisionOf, divided}
 use Rattle.packing.specs.Steps.{Packable, Topped, Assigned}

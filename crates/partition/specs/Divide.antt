@@ -3,36 +3,19 @@
 -- Document 01: "Divide, with limit B and block count k .. It writes carried load, top and block of each rank, and the load of each
 -- of the k blocks." Of its refusals 1, 2, 8, 30 and 22 can be given, in this order. A refused call leaves every table as it was.
 -- Assumes nothing.
-use mathlib.Core.Bool.{Bool, not, _||_, _&&_}
+use mathlib.Core.Bool.{Bool, _||_}
 use mathlib.Core.List.{List, [], _∷_}
 use Prim.Native.Nat.{ℕ}
-use lib.Dec.{eqb, ltb, leb}
+use lib.Dec.{eqb}
 use lib.ListN.{length, getD}
-use Rattle.game.specs.Table.{tabulate, some-entry}
+use Rattle.game.specs.Table.{tabulate}
 use Rattle.game.specs.Net.{Net}
 use Rattle.refusal.specs.Refusal.{given, first, badCount, wrongLength}
 use Rattle.refusal.specs.Outcome.{Done, done}
 use Rattle.net.specs.Damage.{damaged}
 use Rattle.trimming.specs.Cut.{carried, cutBy, top}
-use Rattle.packing.specs.Pack.{maxBlocks, loadsBelow, blockOf}
-
--- "B not 1 to 16,000,000"
-abbrev pub maxLimit : ℕ
-maxLimit = 16_000_000
-
--- "not 1 to" a largest
-unfoldable pub outside : ℕ → ℕ → Bool
-outside most v = not (leb 1 v && leb v most)
-
--- 8, of a limit B and a block count k
-unfoldable pub badLimits : ℕ → ℕ → Bool
-unfolding outside
-badLimits B k = outside maxLimit B || outside maxBlocks k
-
--- 22: "a mark's load is above B, so that no cutting can hold B"
-unfoldable pub tooHeavy : ℕ → List ℕ → Bool
-unfolding some-entry
-tooHeavy B w = some-entry (λ (v : ℕ). ltb B v) w
+use Rattle.packing.specs.Pack.{loadsBelow, blockOf}
+use Rattle.limits.specs.DivisionLimits.{badLimits, tooHeavy}
 
 -- the tables that Divide writes
 pub record DivisionTables : Type 0 where

@@ -11,7 +11,8 @@ use Rattle.net.specs.Damage.{damagedBy, damaged}
 use Rattle.refusal.specs.Refusal.{given, first, unless, badCount}
 use Rattle.refusal.specs.Verdict.{accepted, refused, judged}
 use Rattle.refusal.specs.Outcome.{Done, ended, decided}
-use Rattle.partition.specs.Divide.{DivisionTables, divisionOf, badLimits, tooHeavy, divided, wrongTables, divideRefusal, divideOutcome}
+use Rattle.limits.specs.DivisionLimits.{badLimits, tooHeavy}
+use Rattle.partition.specs.Divide.{DivisionTables, divisionOf, divided, wrongTables, divideRefusal, divideOutcome}
 
 -- tables of the right lengths, lent with sevens in them
 lent : ℕ → DivisionTables

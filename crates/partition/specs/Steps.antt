@@ -3,7 +3,7 @@
 use mathlib.Core.Path.{_≡_}
 use Prim.Native.Nat.{ℕ, _≤_}
 use lib.ListN.{length}
-use Rattle.packing.specs.Pack.{maxBlocks}
+use Rattle.limits.specs.DivisionLimits.{maxBlocks}
 use Rattle.partition.specs.Divide.{DivisionTables}
 
 -- tables that Divide can write for n vertices, with at least one block

@@ -1,7 +1,7 @@
 // The call Divide: what it refuses, and the tables that it writes.
-use crate::limits::bad_limits;
-use crate::limits::too_heavy;
 use groups::group;
+use limits::bad_limits;
+use limits::too_heavy;
 use net::Net;
 use packing::assign;
 use refusal::Answer;

@@ -1,11 +1,7 @@
 // Divides a forest: cuts it into groups of bounded weight and packs the groups into blocks.
 // The cutting rests only on the parent and the weight of each vertex.
 mod dividing;
-mod limits;
 
 pub use dividing::cut_and_pack;
 pub use dividing::divide;
 pub use dividing::wrong_tables;
-pub use limits::MAX_LIMIT;
-pub use limits::bad_limits;
-pub use limits::too_heavy;

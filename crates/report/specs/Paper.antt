@@ -13,7 +13,8 @@ use Rattle.game.specs.Net.{Net, net, netOf, reach}
 use Rattle.refusal.specs.Refusal.{given, first, unless, badCount, wrongLength, odd, fault, firstFault}
 use Rattle.net.specs.Damage.{damagedBy, damaged}
 use Rattle.growth.specs.Work.{workOf, badWork, zeros, cleared}
-use Rattle.partition.specs.Divide.{divisionOf, badLimits, tooHeavy, divided, wrongTables}
+use Rattle.limits.specs.DivisionLimits.{badLimits, tooHeavy}
+use Rattle.partition.specs.Divide.{divisionOf, divided, wrongTables}
 use Rattle.sharing.specs.Share.{share, evenShare}
 use Rattle.meeting.specs.BlockCount.{edgeBlock, edgeBlocks, blocksAt, different, blockCount}
 use Rattle.cost.specs.Figures.{isCut, bound, volume, boundOf, volumeOf, shareOf, totals, totalsOf}

@@ -16,7 +16,7 @@ use Rattle.words.specs.Word.{words}
 use Rattle.words.proofs.Bytes.{words-length}
 use Rattle.permutation.specs.Order.{badOrder}
 use Rattle.relabel.specs.Relabel.{relabelled}
-use Rattle.partition.specs.Divide.{badLimits, tooHeavy}
+use Rattle.limits.specs.DivisionLimits.{badLimits, tooHeavy}
 use Rattle.decimal.specs.Put.{Put}
 use Rattle.decimal.proofs.Runs.{put-front}
 use Rattle.printing.specs.Lines.{refusedText}

@@ -11,7 +11,8 @@ use Rattle.game.specs.Net.{owner, charge, weight, weights, netOf, reach}
 use Rattle.refusal.specs.Refusal.{given, first, unless, wrongLength, fault, firstFault}
 use Rattle.permutation.specs.Order.{badOrder}
 use Rattle.relabel.specs.Relabel.{relabelled}
-use Rattle.partition.specs.Divide.{badLimits, tooHeavy, divided}
+use Rattle.limits.specs.DivisionLimits.{badLimits, tooHeavy}
+use Rattle.partition.specs.Divide.{divided}
 use Rattle.sharing.specs.Share.{evenShare}
 use Rattle.meeting.specs.BlockCount.{edgeBlock, edgeBlocks, blocksAt, different, blockCount}
 use Rattle.cost.specs.Figures.{isCut, bound, volume, boundOf, volumeOf, shareOf, totalsOf}

@@ -1,6 +1,6 @@
 use borrow.Author.Needs.{needs}
 use Prim.Native.Nat.{_+_}
-use Rattle.packing.specs.Pack.{maxBlocks}
+use Rattle.limits.specs.DivisionLimits.{maxBlocks}
 use Rattle.files.specs.Files.{vertexCapacity, edgeCapacity}
 use Rattle.answering.proofs.report_on.Statement.{statement}
 use Rattle.answering.proofs.report_on.Tie as tie

@@ -1,11 +1,11 @@
 use mathlib.Core.Path.{_≡_, sym, _∙_}
 use Prim.Native.Nat.{_-_, _≤_}
 use lib.ListN.{length, drop}
-use Rattle.partition.specs.Divide.{tooHeavy}
-use Rattle.partition.proofs.Refused.{heavy-stop, heavy-on, heavy-end}
+use Rattle.limits.specs.DivisionLimits.{tooHeavy}
+use Rattle.limits.proofs.DivisionLimits.{heavy-stop, heavy-on, heavy-end}
 use borrow.Author.Needs.{needs}
-use Rattle.partition.proofs.limits.too_heavy.Statement.{statement}
-use Rattle.partition.proofs.limits.too_heavy.Tie as tie
+use Rattle.limits.proofs.too_heavy.Statement.{statement}
+use Rattle.limits.proofs.too_heavy.Tie as tie
 
 abbrev Inv-loop : tie.InvT-loop
 Inv-loop bound weights i₀ i = (i ≤ length weights) × (tooHeavy bound (drop i weights) ≡ tooHeavy bound weights)

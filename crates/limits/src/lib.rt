@@ -1,11 +1,13 @@
 // The limits of a division, and what goes beyond them.
-use packing::MAX_BLOCKS;
 ghost use mathlib.Core.Path.{_≡_};
 ghost use Prim.Native.Nat.{_<_};
-ghost use Rattle.partition.specs.Divide.{outside, badLimits, tooHeavy};
+ghost use Rattle.limits.specs.DivisionLimits.{outside, badLimits, tooHeavy};
 
 // The largest limit on the weight of a group.
 pub const MAX_LIMIT: u32 = 16_000_000;
+
+// The largest number of blocks.
+pub const MAX_BLOCKS: u32 = 1_000;
 
 // Whether x is not 1 to most.
 fn is_outside(most: u32, x: u32) -> bool

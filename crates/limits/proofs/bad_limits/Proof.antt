@@ -1,8 +1,8 @@
 use mathlib.Core.Path.{sym, _∙_}
 use borrow.Author.Needs.{needs}
-use Rattle.partition.specs.Divide.{badLimits}
-use Rattle.partition.proofs.limits.bad_limits.Statement.{statement}
-use Rattle.partition.proofs.limits.bad_limits.Tie as tie
+use Rattle.limits.specs.DivisionLimits.{badLimits}
+use Rattle.limits.proofs.bad_limits.Statement.{statement}
+use Rattle.limits.proofs.bad_limits.Tie as tie
 
 is-outside-requires : tie.Need-is-outside-requires
 is-outside-requires c κs = search needs

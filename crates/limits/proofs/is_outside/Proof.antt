@@ -1,7 +1,7 @@
 use mathlib.Core.Path.{sym}
-use Rattle.partition.proofs.Refused.{outside-low, outside-high}
-use Rattle.partition.proofs.limits.is_outside.Statement.{statement}
-use Rattle.partition.proofs.limits.is_outside.Tie as tie
+use Rattle.limits.proofs.DivisionLimits.{outside-low, outside-high}
+use Rattle.limits.proofs.is_outside.Statement.{statement}
+use Rattle.limits.proofs.is_outside.Tie as tie
 
 returns : tie.Need-returns
 returns c = sym (outside-low _ _ (c .if1 .taken))

@@ -1,0 +1,2 @@
+-- The limits of a division.
+pub mod DivisionLimits
