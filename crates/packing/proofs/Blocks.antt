@@ -16,7 +16,8 @@ use Rattle.game.specs.Table.{tabulate, sum}
 use Rattle.game.proofs.Tables.{sum-entry, tabulate-unique}
 use Rattle.refusal.specs.Limits.{maxTotal}
 use Rattle.limits.specs.DivisionLimits.{maxBlocks}
-use Rattle.packing.specs.Pack.{lightest, put, loadsBelow, blockOf}
+use Rattle.tournament.specs.Lightest.{lightest}
+use Rattle.packing.specs.Pack.{put, loadsBelow, blockOf}
 use Rattle.packing.specs.Steps.{Packable, Packed, Topped, Assigned}
 use Rattle.groups.proofs.Sums.{only, total-more}
 use Rattle.trimming.proofs.Carried.{entry}

@@ -1,4 +1,3 @@
 -- Laws of packing, by subject. Nothing here needs to be believed: it is all proved.
 pub mod BlockLoads
 pub mod Blocks
-pub mod Winners

@@ -6,15 +6,8 @@
 use mathlib.Core.Bool.{Bool, cond}
 use mathlib.Core.List.{List, [], _∷_}
 use Prim.Native.Nat.{ℕ, zero, suc, _+_, max}
-use lib.Dec.{ltb}
-use lib.ListN.{length, getD, set, replicate}
-use Rattle.game.specs.Table.{tabulate}
-use Rattle.trimming.specs.Cut.{best}
-
--- "the block with the least load so far, of equals the lowest number"
-unfoldable pub lightest : List ℕ → ℕ
-unfolding best tabulate
-lightest loads = best (λ (i j : ℕ). ltb (getD loads i 0) (getD loads j 0)) 0 (tabulate (length loads) (λ (i : ℕ). i))
+use lib.ListN.{getD, set, replicate}
+use Rattle.tournament.specs.Lightest.{lightest}
 
 -- a group of weight v put into block j
 unfoldable pub put : List ℕ → ℕ → ℕ → List ℕ

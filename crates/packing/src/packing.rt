@@ -1,8 +1,8 @@
 // Packing: groups by rising top into the lightest block.
-use crate::tournament::NODES;
-use crate::tournament::replay;
-use crate::tournament::start;
 use table::wide;
+use tournament::NODES;
+use tournament::replay;
+use tournament::start;
 ghost use mathlib.Core.Path.{_≡_};
 ghost use Prim.Native.Nat.{ℕ, _<_};
 ghost use lib.ListN.{length, getD, replicate};

@@ -4,9 +4,9 @@ use mathlib.Core.Logic.{⊎-elim}
 use Prim.Native.Nat.{_-_}
 use lib.ListN.{length}
 use borrow.Author.Needs.{needs}
-use Rattle.packing.specs.Pack.{lightest}
-use Rattle.packing.specs.Steps.{Tournament}
-use Rattle.packing.proofs.Winners.{lightest-zeros, tournament-same, outdated}
+use Rattle.tournament.specs.Lightest.{lightest}
+use Rattle.tournament.specs.Steps.{Tournament}
+use Rattle.tournament.proofs.Winners.{lightest-zeros, tournament-same, outdated}
 use Rattle.packing.proofs.Blocks.{Packs, packs-none, packs-length, packs-few, packs-all, packs-pass, packs-inside, packs-fits, packs-more}
 use Rattle.packing.proofs.packing.pack.Statement.{statement}
 use Rattle.packing.proofs.packing.pack.Tie as tie

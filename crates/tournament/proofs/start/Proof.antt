@@ -1,9 +1,9 @@
 use native.Mathlib.Omega.{arith}
 use lib.ListN.{replicate}
 use borrow.Author.Needs.{needs}
-use Rattle.packing.proofs.Winners.{Playing, start-high, start-begin, start-node, start-leaf, play-done}
-use Rattle.packing.proofs.tournament.start.Statement.{statement}
-use Rattle.packing.proofs.tournament.start.Tie as tie
+use Rattle.tournament.proofs.Winners.{Playing, start-high, start-begin, start-node, start-leaf, play-done}
+use Rattle.tournament.proofs.start.Statement.{statement}
+use Rattle.tournament.proofs.start.Tie as tie
 
 abbrev Inv-loop : tie.InvT-loop
 Inv-loop blocks nodes₀ i₀ nodes i = Playing (replicate blocks 0) nodes i i

@@ -1,9 +1,9 @@
 use native.Mathlib.Omega.{arith}
 use mathlib.Core.Path.{refl}
 use borrow.Author.Needs.{needs}
-use Rattle.packing.proofs.Winners.{Replaying, replay-begin, replay-more, replay-done, replay-none}
-use Rattle.packing.proofs.tournament.replay.Statement.{statement}
-use Rattle.packing.proofs.tournament.replay.Tie as tie
+use Rattle.tournament.proofs.Winners.{Replaying, replay-begin, replay-more, replay-done, replay-none}
+use Rattle.tournament.proofs.replay.Statement.{statement}
+use Rattle.tournament.proofs.replay.Tie as tie
 
 abbrev Inv-loop : tie.InvT-loop
 Inv-loop loads block nodes₀ i₀ least₀ nodes i least = Replaying loads nodes i least

@@ -10,9 +10,9 @@ use native.Mathlib.Omega.{arith}
 use lib.ListN.{length, getD, set, replicate, length-set, length-replicate, getD-replicate}
 use lib.Seq.{getD-set-same, getD-set-other}
 use Rattle.limits.specs.DivisionLimits.{maxBlocks}
-use Rattle.packing.specs.Pack.{lightest}
-use Rattle.packing.specs.Steps.{key, Lower, Tournament, Outdated}
-use Rattle.packing.proofs.BlockLoads.{lightest-found}
+use Rattle.tournament.specs.Lightest.{lightest}
+use Rattle.tournament.specs.Steps.{key, Lower, Tournament, Outdated}
+use Rattle.tournament.proofs.Lightest.{lightest-found}
 
 lower-swap : {a b r : ℕ} → Lower a b r → Lower b a r
 lower-swap l = record { left = l .right; right = l .left; one = ⊎-elim (λ e. inr e) (λ e. inl e) (l .one) }

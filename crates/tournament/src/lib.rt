@@ -5,8 +5,8 @@ ghost use mathlib.Core.Path.{_≡_};
 ghost use Prim.Native.Nat.{_+_, _*_, _/_, _≤_, _<_};
 ghost use lib.ListN.{length, replicate};
 ghost use Rattle.limits.specs.DivisionLimits.{maxBlocks};
-ghost use Rattle.packing.specs.Pack.{lightest};
-ghost use Rattle.packing.specs.Steps.{key, Lower, Tournament, Outdated};
+ghost use Rattle.tournament.specs.Lightest.{lightest};
+ghost use Rattle.tournament.specs.Steps.{key, Lower, Tournament, Outdated};
 
 // Room for the nodes of 1,000 blocks.
 pub const NODES: usize = 2_000;

@@ -1,8 +1,8 @@
 use native.Mathlib.Omega.{arith}
 use mathlib.Core.Path.{refl}
 use mathlib.Core.Logic.{inl, inr}
-use Rattle.packing.proofs.tournament.lower.Statement.{statement}
-use Rattle.packing.proofs.tournament.lower.Tie as tie
+use Rattle.tournament.proofs.lower.Statement.{statement}
+use Rattle.tournament.proofs.lower.Tie as tie
 
 returns : tie.Need-returns
 returns c = record { left = omega arith; right = omega arith; one = inr refl }
