@@ -27,11 +27,11 @@ use Rattle.decimal.specs.Put.{Put}
 use Rattle.cost.specs.declared.Totals.{Totals}
 use Rattle.cost.specs.Figures.{totalsOf}
 use Rattle.compare.specs.Compare.{wrongCompared, unlike}
-use Rattle.compare.proofs.Refused.{list-passes}
+use Rattle.likeness.proofs.Refused.{list-passes}
 use Rattle.writing.specs.Written.{Written, figures}
 use Rattle.early.specs.Early.{earlyRefusal}
 use Rattle.report.specs.Report.{Lent, wrongFigures, wrongLent, reportRefusal, reportOutcome}
-use Rattle.compare.proofs.Sameness.{same-passes}
+use Rattle.compare.proofs.Unlike.{same-passes}
 use Rattle.printing.specs.Lines.{rankText, linesBelow, totalsText}
 use Rattle.fields.specs.Steps.{lineRoom}
 use Rattle.printing.specs.Steps.{Columns, answerText, totalsRoom}

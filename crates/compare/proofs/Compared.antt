@@ -13,6 +13,7 @@ use Rattle.game.specs.Net.{Net, net, netOf, weight, weights}
 use Rattle.game.proofs.Tables.{tabulate-ext}
 use Rattle.game.proofs.Forest.{forest-length}
 use Rattle.game.proofs.Weights.{weights-length}
+use Rattle.likeness.specs.Likeness.{sameNet}
 use Rattle.bucket.specs.Ends.{endOf, ending, tallied}
 use Rattle.bucket.specs.Filed.{Filed}
 use Rattle.bucket.proofs.Ends.{ending-weight}
@@ -22,7 +23,6 @@ use Rattle.growth.specs.Work.{Work, workOf, cleared}
 use Rattle.growth.specs.Growth.{Growable, Light, Grown}
 use Rattle.growth.proofs.NewParents.{links-blank}
 use Rattle.growth.proofs.Regrown.{grown-filed}
-use Rattle.compare.specs.Compare.{sameNet}
 use Rattle.growth.specs.Lists.{ListFits}
 use Rattle.compare.specs.Steps.{GrowsNet, Comparable, Compared}
 

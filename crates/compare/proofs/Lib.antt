@@ -1,5 +1,4 @@
 -- Laws of comparing, by subject. Nothing here needs to be believed: it is all proved.
-pub mod Sameness
+pub mod Unlike
 pub mod Compared
-pub mod Refused
 pub mod Ready

@@ -12,11 +12,12 @@ use Rattle.game.proofs.Bools.{or-neither}
 use Rattle.refusal.specs.Limits.{maxVertices}
 use Rattle.refusal.specs.Refusal.{firstFault}
 use Rattle.refusal.proofs.First.{length-right}
+use Rattle.likeness.specs.Likeness.{listRefusal}
+use Rattle.likeness.proofs.Refused.{list-passed}
 use Rattle.growth.specs.Work.{Work}
 use Rattle.growth.proofs.Rooms.{good-work}
-use Rattle.compare.specs.Compare.{wrongCompared, listRefusal}
+use Rattle.compare.specs.Compare.{wrongCompared}
 use Rattle.compare.specs.Steps.{Comparable}
-use Rattle.compare.proofs.Refused.{list-passed}
 
 -- the lengths of the comparison tables and the work tables, for n vertices and m edges
 pub record ComparedLengths (n m : ℕ) (compared : Net) (work : Work) : Type 0 where

@@ -7,10 +7,10 @@ use Prim.Native.Nat.{ℕ}
 use lib.ListN.{length}
 use Rattle.game.specs.Edge.{Edge, edges}
 use Rattle.game.specs.Net.{Net, netOf}
+use Rattle.likeness.specs.Likeness.{sameNet}
 use Rattle.bucket.specs.Filed.{Filed}
 use Rattle.growth.specs.Work.{Work, cleared}
 use Rattle.growth.specs.Lists.{ListFits}
-use Rattle.compare.specs.Compare.{sameNet}
 
 -- what growing the net of a list leaves: that net, and the edges, which stay filed
 pub record GrowsNet (xs : List ℕ) (lent grown : Net) (work : Work) : Type 0 where

@@ -11,7 +11,7 @@ use Rattle.game.specs.Net.{Net}
 use Rattle.refusal.specs.Refusal.{given, first, badCount}
 use Rattle.net.specs.Damage.{damaged}
 use Rattle.limits.specs.DivisionLimits.{badLimits, tooHeavy}
-use Rattle.compare.specs.Compare.{listRefusal}
+use Rattle.likeness.specs.Likeness.{listRefusal}
 
 -- the number for which Report is refused early, or 0; `wrong` tells whether a length is wrong
 unfoldable pub earlyRefusal : Net → ℕ → ℕ → List ℕ → (wrong : Bool) → ℕ

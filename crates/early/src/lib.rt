@@ -93,7 +93,7 @@ pub fn early_refusal(
     if Net::of(weights).is_damaged(parents) {
         return 30;
     }
-    let list = compare::list_refusal(n, edges);
+    let list = likeness::list_refusal(n, edges);
     if list != 0 {
         return list;
     }

@@ -17,7 +17,7 @@ use Rattle.moving.specs.declared.Moved.{Moved}
 use Rattle.starting.specs.Start.{startOutcome}
 use Rattle.adding.specs.Add.{addOutcome}
 use Rattle.forest.proofs.FirstList.{FirstList, first-net}
-use Rattle.compare.specs.Compare.{sameNet}
+use Rattle.likeness.specs.Likeness.{sameNet}
 use Rattle.own.specs.Steps.{Tellable, Told}
 
 module _ {p w xs cp cw e j l : List ℕ} (t : Tellable (net p w) xs (net cp cw) (workOf e j l)) where

@@ -8,7 +8,7 @@ use lib.ListN.{length}
 use Rattle.game.specs.Edge.{Edge}
 use Rattle.game.specs.Net.{Net, netOf}
 use Rattle.growth.specs.Work.{Work, cleared}
-use Rattle.compare.specs.Compare.{sameNet}
+use Rattle.likeness.specs.Likeness.{sameNet}
 use Rattle.compare.specs.Steps.{Comparable}
 
 -- what telling a net's own edges asks: tables and a list that fit, of whole edges, for some vertices

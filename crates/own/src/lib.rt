@@ -22,5 +22,5 @@ pub fn is_own(
 {
     forest::start(compared_parents, compared_weights);
     forest::add(compared_parents, compared_weights, edges, ends, jump, lower);
-    compare::same_net(parents, weights, compared_parents, compared_weights)
+    likeness::same_net(parents, weights, compared_parents, compared_weights)
 }

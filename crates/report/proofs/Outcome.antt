@@ -27,7 +27,7 @@ use Rattle.writing.specs.Written.{Written, figures}
 use Rattle.writing.specs.Steps.{Reportable, Answered}
 use Rattle.early.specs.Early.{earlyRefusal}
 use Rattle.report.specs.Report.{Lent, lent, wrongLent, reportRefusal, reportOutcome}
-use Rattle.compare.proofs.Sameness.{same-passes, found-own, found-other}
+use Rattle.compare.proofs.Unlike.{same-passes, found-own, found-other}
 use Rattle.report.proofs.Refused.{ready}
 
 module _ (of : Net) (B k : ℕ) (xs : List ℕ) (was : Lent) where

@@ -16,7 +16,7 @@ use Rattle.partition.specs.Divide.{divisionOf, wrongTables, divideRefusal}
 use Rattle.partition.proofs.Refused.{Sized, tables-not, refused-not}
 use Rattle.compare.specs.Compare.{wrongCompared}
 use Rattle.compare.specs.Steps.{Comparable}
-use Rattle.compare.proofs.Refused.{list-passed}
+use Rattle.likeness.proofs.Refused.{list-passed}
 use Rattle.compare.proofs.Ready.{ComparedLengths, compared-lengths, comparable}
 use Rattle.writing.specs.Written.{written}
 use Rattle.early.specs.Early.{earlyRefusal}

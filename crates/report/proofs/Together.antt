@@ -20,7 +20,7 @@ use Rattle.compare.specs.Compare.{unlike}
 use Rattle.writing.specs.Written.{Written, figures}
 use Rattle.early.specs.Early.{earlyRefusal}
 use Rattle.report.specs.Report.{Lent, wrongLent, reportRefusal, reportOutcome}
-use Rattle.compare.proofs.Sameness.{passed-same}
+use Rattle.compare.proofs.Unlike.{passed-same}
 use Rattle.report.proofs.Refused.{ready}
 
 module _ (of : Net) (B k : ℕ) (xs : List ℕ) (was : Lent) {totals : Totals} (answer : reportOutcome of B k xs was .verdict ≡ accepted totals) where

@@ -19,7 +19,8 @@ use Rattle.sharing.specs.Share.{share, evenShare}
 use Rattle.meeting.specs.BlockCount.{edgeBlock, edgeBlocks, blocksAt, different, blockCount}
 use Rattle.cost.specs.Figures.{isCut, bound, volume, boundOf, volumeOf, shareOf, totals, totalsOf}
 use Rattle.meeting.specs.Taken.{allMet, takenAfter, edgesTaken}
-use Rattle.compare.specs.Compare.{wrongCompared, listRefusal, sameTable, sameNet, unlike}
+use Rattle.likeness.specs.Likeness.{listRefusal, sameTable, sameNet}
+use Rattle.compare.specs.Compare.{wrongCompared, unlike}
 use Rattle.game.specs.Case.{whole, own, other, others}
 use Rattle.refusal.specs.Verdict.{accepted, refused, judged}
 use Rattle.refusal.specs.Outcome.{Outcome, ended}

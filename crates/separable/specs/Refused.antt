@@ -11,7 +11,7 @@ use lib.ListN.{length}
 use Rattle.game.specs.Net.{Net}
 use Rattle.refusal.specs.Refusal.{given, first, badCount}
 use Rattle.net.specs.Damage.{damaged}
-use Rattle.compare.specs.Compare.{listRefusal}
+use Rattle.likeness.specs.Likeness.{listRefusal}
 
 -- what is decided by reading alone, or 0; `wrong` tells whether a length is wrong
 unfoldable pub readRefusal : Net → (a b : ℕ) → List ℕ → (wrong : Bool) → ℕ

@@ -32,5 +32,5 @@ pub fn read_refusal(
     if (n <= wide(one)) | (n <= wide(other)) {
         return 4;
     }
-    compare::list_refusal(n, edges)
+    likeness::list_refusal(n, edges)
 }

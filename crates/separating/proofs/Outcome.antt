@@ -15,7 +15,7 @@ use Rattle.refusal.proofs.First.{first-pass, first-stop, first-last, unless-ref
 use Rattle.refusal.proofs.Ends.{judged-refused}
 use Rattle.growth.specs.Work.{Work, cleared}
 use Rattle.compare.specs.Compare.{unlike}
-use Rattle.compare.proofs.Sameness.{same-passes, found-own, found-other}
+use Rattle.compare.proofs.Unlike.{same-passes, found-own, found-other}
 use Rattle.ancestry.specs.declared.Separator.{Separator}
 use Rattle.ancestry.specs.Answer.{separatorOf}
 use Rattle.ancestry.specs.Common.{commonAncestors, related, atFront}

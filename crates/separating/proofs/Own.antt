@@ -12,9 +12,10 @@ use Rattle.refusal.specs.Verdict.{refused}
 use Rattle.refusal.proofs.Never.{first-not, end-not, other-not, false-not, verdict-not}
 use Rattle.forest.specs.Promise.{Valid}
 use Rattle.forest.proofs.Promise.{valid-undamaged}
-use Rattle.compare.specs.Compare.{listRefusal, unlike}
-use Rattle.compare.proofs.Refused.{list-not}
-use Rattle.compare.proofs.Sameness.{same-passes}
+use Rattle.likeness.specs.Likeness.{listRefusal}
+use Rattle.likeness.proofs.Refused.{list-not}
+use Rattle.compare.specs.Compare.{unlike}
+use Rattle.compare.proofs.Unlike.{same-passes}
 use Rattle.separable.specs.Refused.{readRefusal}
 use Rattle.separating.specs.Separate.{SeparateTables, wrongSeparate, grownRefusal, separateRefusal, separateOutcome}
 

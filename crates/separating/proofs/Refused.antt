@@ -18,7 +18,7 @@ use Rattle.net.specs.Damage.{damaged}
 use Rattle.net.proofs.Scan.{undamaged}
 use Rattle.growth.specs.Work.{workOf, badWork}
 use Rattle.compare.specs.Compare.{wrongCompared}
-use Rattle.compare.proofs.Refused.{list-passed}
+use Rattle.likeness.proofs.Refused.{list-passed}
 use Rattle.compare.proofs.Ready.{ComparedLengths, compared-lengths, comparable}
 use Rattle.ancestry.specs.Steps.{Walkable}
 use Rattle.own.specs.Steps.{Tellable}

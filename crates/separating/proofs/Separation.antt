@@ -19,7 +19,7 @@ use Rattle.refusal.specs.Verdict.{accepted}
 use Rattle.refusal.proofs.First.{first-none, given-none}
 use Rattle.refusal.proofs.Fault.{faultless-proper}
 use Rattle.refusal.proofs.Ends.{accepted-none, accepted-values}
-use Rattle.compare.proofs.Sameness.{passed-same}
+use Rattle.compare.proofs.Unlike.{passed-same}
 use Rattle.ancestry.specs.declared.Lowest.the-variants.{Vertex, Nothing}
 use Rattle.ancestry.specs.declared.Separator.{Separator}
 use Rattle.ancestry.specs.Common.{commonAncestors, related, atFront}

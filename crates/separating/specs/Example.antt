@@ -14,7 +14,8 @@ use Rattle.refusal.specs.Verdict.{accepted, refused, judged}
 use Rattle.refusal.specs.Outcome.{Outcome, ended}
 use Rattle.net.specs.Damage.{damagedBy, damaged}
 use Rattle.growth.specs.Work.{workOf, badWork, zeros, cleared}
-use Rattle.compare.specs.Compare.{wrongCompared, listRefusal, sameTable, sameNet, unlike}
+use Rattle.likeness.specs.Likeness.{listRefusal, sameTable, sameNet}
+use Rattle.compare.specs.Compare.{wrongCompared, unlike}
 use Rattle.game.specs.Case.{whole, own, other, others}
 use Rattle.ancestry.specs.declared.Lowest.the-variants.{Vertex, Nothing}
 use Rattle.ancestry.specs.declared.Separator.{Separator}

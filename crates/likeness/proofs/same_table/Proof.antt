@@ -2,10 +2,10 @@ use mathlib.Core.Path.{_≡_, sym, _∙_}
 use Prim.Native.Nat.{_-_, _≤_}
 use lib.ListN.{length, drop}
 use borrow.Author.Needs.{needs}
-use Rattle.compare.specs.Compare.{sameTable}
-use Rattle.compare.proofs.Sameness.{scan-differs, scan-agrees, scan-over}
-use Rattle.compare.proofs.same_table.Statement.{statement}
-use Rattle.compare.proofs.same_table.Tie as tie
+use Rattle.likeness.specs.Likeness.{sameTable}
+use Rattle.likeness.proofs.Sameness.{scan-differs, scan-agrees, scan-over}
+use Rattle.likeness.proofs.same_table.Statement.{statement}
+use Rattle.likeness.proofs.same_table.Tie as tie
 
 abbrev Inv-loop : tie.InvT-loop
 Inv-loop one other i₀ i = (i ≤ length one) × (sameTable (drop i one) (drop i other) ≡ sameTable one other)

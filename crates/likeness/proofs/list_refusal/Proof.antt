@@ -1,10 +1,10 @@
 use mathlib.Core.Path.{sym, _∙_}
 use borrow.Author.Needs.{needs}
 use Rattle.refusal.proofs.First.{pass, stop, first-pass, first-stop, first-end}
-use Rattle.compare.specs.Compare.{listRefusal}
-use Rattle.compare.proofs.Refused.{many-edges, few-edges}
-use Rattle.compare.proofs.list_refusal.Statement.{statement}
-use Rattle.compare.proofs.list_refusal.Tie as tie
+use Rattle.likeness.specs.Likeness.{listRefusal}
+use Rattle.likeness.proofs.Refused.{many-edges, few-edges}
+use Rattle.likeness.proofs.list_refusal.Statement.{statement}
+use Rattle.likeness.proofs.list_refusal.Tie as tie
 
 list-fault-requires : tie.Need-list-fault-requires
 list-fault-requires c κs = search needs

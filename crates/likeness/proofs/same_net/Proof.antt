@@ -2,9 +2,9 @@ use mathlib.Core.Path.{sym, ap, _∙_}
 use mathlib.Core.Bool.{Bool, _&&_}
 use borrow.Author.Needs.{needs}
 use borrow.Author.Tests.{not-true, not-false}
-use Rattle.compare.specs.Compare.{sameNet, sameTable}
-use Rattle.compare.proofs.same_net.Statement.{statement}
-use Rattle.compare.proofs.same_net.Tie as tie
+use Rattle.likeness.specs.Likeness.{sameNet, sameTable}
+use Rattle.likeness.proofs.same_net.Statement.{statement}
+use Rattle.likeness.proofs.same_net.Tie as tie
 
 same-table-requires : tie.Need-same-table-requires
 same-table-requires c κs = search needs

@@ -14,7 +14,7 @@ use Rattle.refusal.specs.Limits.{maxEdges}
 use Rattle.refusal.specs.Refusal.{firstFault}
 use Rattle.refusal.proofs.First.{pass, first-pass, first-end, first-none, given-none}
 use Rattle.refusal.proofs.Never.{end-not, other-not, fault-not}
-use Rattle.compare.specs.Compare.{listRefusal}
+use Rattle.likeness.specs.Likeness.{listRefusal}
 
 pub many-edges : (xs : List ℕ) → maxEdges < length xs / 2 → ltb maxEdges (length (edges xs)) ≡ true
 many-edges xs h = lt-ltb maxEdges (length (edges xs)) (omega (arith, edges-length xs))

@@ -1,7 +1,7 @@
 -- Tables and nets that pass the test of sameness are one, and a scan decides it.
 -- Assumes nothing.
-use mathlib.Core.Path.{_≡_, refl, sym, ap, ap₂, _∙_}
-use mathlib.Core.Bool.{Bool, true, false, not, false≢true}
+use mathlib.Core.Path.{_≡_, refl, ap₂}
+use mathlib.Core.Bool.{true, false, false≢true}
 use mathlib.Core.List.{List, [], _∷_}
 use Prim.Native.Nat.{ℕ, _+_, _≤_, _<_}
 use native.Mathlib.Numerals.{add-one}
@@ -9,13 +9,10 @@ use native.Mathlib.Omega.{arith}
 use lib.Dec.{eqb}
 use lib.ListN.{length, getD, drop, drop-of-length-le}
 use lib.Seq.{drop-cons}
-use borrow.Author.Tests.{eq-eqb, ne-eqb, eqb-true, not-false}
-use Rattle.game.specs.Edge.{Edge}
-use Rattle.game.specs.Net.{Net, net, netOf}
+use borrow.Author.Tests.{eq-eqb, ne-eqb, eqb-true}
+use Rattle.game.specs.Net.{Net, net}
 use Rattle.game.proofs.Bools.{and-both, both-and}
-use Rattle.refusal.specs.Refusal.{given}
-use Rattle.refusal.proofs.First.{given-true, given-none}
-use Rattle.compare.specs.Compare.{sameTable, sameNet, unlike}
+use Rattle.likeness.specs.Likeness.{sameTable, sameNet}
 
 pub same-table : (xs ys : List ℕ) → sameTable xs ys ≡ true → xs ≡ ys
 unfolding sameTable
@@ -40,27 +37,6 @@ same-net one other e =
 pub net-same : (one other : Net) → one ≡ other → sameNet one other ≡ true
 unfolding sameNet
 net-same one other e = rw e (both-and (sameTable (other .parents) (other .parents)) (sameTable (other .weights) (other .weights)) (table-same (other .parents)) (table-same (other .weights)))
-
--- 23 is not given where the edges' net is the net
-pub same-passes : (of : Net) (es : List Edge) → of ≡ netOf (length (of .parents)) es → unlike of es ≡ 0
-unfolding unlike given
-same-passes of es is = rw (net-same of (netOf (length (of .parents)) es) is) refl
-
--- and only there
-pub passed-same : (of : Net) (es : List Edge) → unlike of es ≡ 0 → of ≡ netOf (length (of .parents)) es
-unfolding unlike
-passed-same of es z =
-    let grown : Net = netOf (length (of .parents)) es in
-    same-net of grown (not-false (sameNet of grown) (given-none (not (sameNet of grown)) 22 z))
-
--- what a test that was made tells: the edges are the net's own, or they are refused
-module _ (of : Net) (es : List Edge) {same : Bool} (test : same ≡ sameNet of (netOf (length (of .parents)) es)) where
-  pub found-own : same ≡ true → of ≡ netOf (length (of .parents)) es
-  found-own e = same-net of (netOf (length (of .parents)) es) (sym test ∙ e)
-
-  pub found-other : same ≡ false → unlike of es ≡ 23
-  unfolding unlike
-  found-other e = given-true (not (sameNet of (netOf (length (of .parents)) es))) 23 (ap not (sym test ∙ e))
 
 -- A scan of two tables of one length, at i: what is left decides.
 module _ (xs ys : List ℕ) (i : ℕ) (long : length xs ≡ length ys) where
