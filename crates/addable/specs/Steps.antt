@@ -8,7 +8,7 @@ use lib.ListN.{length}
 use Rattle.game.specs.Edge.{edges}
 use Rattle.refusal.specs.Limits.{maxTotal}
 use Rattle.refusal.specs.Refusal.{given, first, firstFault}
-use Rattle.bucket.specs.Steps.{upperCounts}
+use Rattle.placing.specs.Steps.{upperCounts}
 use Rattle.growth.specs.Work.{NetWithWork}
 use Rattle.addable.specs.Refused.{addRefusal}
 

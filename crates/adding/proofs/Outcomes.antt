@@ -17,8 +17,8 @@ use Rattle.moving.specs.declared.Moved.{Moved}
 use Rattle.moving.specs.Moved.{movedFrom, moved}
 use Rattle.moving.specs.Steps.{movedAt, Differ}
 use Rattle.moving.proofs.Differ.{differ-moved}
-use Rattle.bucket.specs.Ends.{tallied}
-use Rattle.bucket.proofs.Ends.{tally-weights}
+use Rattle.placing.specs.Ends.{tallied}
+use Rattle.placing.proofs.Ends.{tally-weights}
 use Rattle.growth.specs.Work.{withWork, workOf, cleared}
 use Rattle.growth.proofs.Rooms.{same-room}
 use Rattle.adding.specs.Add.{grown}

@@ -12,7 +12,7 @@ use Rattle.refusal.specs.Refusal.{firstFault}
 use Rattle.refusal.specs.Verdict.{refused}
 use Rattle.refusal.specs.Outcome.{ended}
 use Rattle.refusal.proofs.Ends.{ends-refused}
-use Rattle.bucket.specs.Steps.{upperCounts}
+use Rattle.placing.specs.Steps.{upperCounts}
 use Rattle.growth.specs.Work.{NetWithWork, withWork, workOf}
 use Rattle.rising.proofs.Rising.{rises-faultless}
 use Rattle.addable.specs.Refused.{addRefusal}

@@ -1,7 +1,4 @@
--- Laws by subject: counts, the two sources of edges, one file for each loop, and what the two fronts need of them together.
-pub mod Ends
-pub mod Sources
-pub mod Upper
+-- Laws by subject: edges of two sources filed together, and what the buckets then hold.
 pub mod LowerEnds
 pub mod Filing
 pub mod Reading

@@ -10,7 +10,7 @@ use native.Mathlib.Omega.{arith}
 use lib.ListN.{length, getD, set, take, drop, length-set}
 use lib.Seq.{take-suc-set, take-all}
 use Rattle.game.specs.Edge.{Edge, _─_, lower, edges}
-use Rattle.bucket.specs.Ends.{endOf}
+use Rattle.placing.specs.Ends.{endOf}
 use Rattle.game.proofs.Edges.{edges-drop, edges-end, edges-length}
 use Rattle.refusal.specs.Refusal.{fault, firstFault}
 use Rattle.refusal.proofs.First.{first-none, first-last}

@@ -52,7 +52,7 @@ pub fn write_edge_blocks(edges: &[u32], block: &[u32], edge_blocks: &mut [u32])
     let mut i = 0;
     let mut at = 0;
     while i < edge_blocks.len() {
-        edge_blocks[i] = block[wide(bucket::end_of(false, edges[at], edges[at + 1]))];
+        edge_blocks[i] = block[wide(placing::end_of(false, edges[at], edges[at + 1]))];
         i += 1;
         at += 2;
     }

@@ -5,8 +5,8 @@ ghost use mathlib.Core.Path.{_≡_};
 ghost use mathlib.Core.Bool.{true, false};
 ghost use lib.ListN.{length};
 ghost use Rattle.game.specs.Edge.{edges as edgesOf};
-ghost use Rattle.bucket.specs.Ends.{tallied};
-ghost use Rattle.bucket.specs.Steps.{upperCounts};
+ghost use Rattle.placing.specs.Ends.{tallied};
+ghost use Rattle.placing.specs.Steps.{upperCounts};
 ghost use Rattle.moving.specs.Steps.{Differ};
 ghost use Rattle.inserting.specs.Extending.{Extendable, Extends, Weighable};
 
@@ -28,6 +28,6 @@ pub fn extend(
     if counted {
         return growing::grow_counted(parents, weights, edges, ends, jump, lower);
     }
-    bucket::tally(weights, edges, false);
+    placing::tally(weights, edges, false);
     inserting::insert(parents, edges, ends, jump, lower)
 }

@@ -5,8 +5,8 @@ ghost use mathlib.Core.Path.{_≡_};
 ghost use mathlib.Core.Bool.{false};
 ghost use lib.ListN.{length};
 ghost use Rattle.game.specs.Edge.{edges as edgesOf};
-ghost use Rattle.bucket.specs.Ends.{tallied};
-ghost use Rattle.bucket.specs.Steps.{upperCounts};
+ghost use Rattle.placing.specs.Ends.{tallied};
+ghost use Rattle.placing.specs.Steps.{upperCounts};
 ghost use Rattle.moving.specs.Steps.{Differ};
 ghost use Rattle.inserting.specs.Extending.{Extendable, Extends, Weighable};
 
@@ -27,7 +27,7 @@ pub fn grow_counted(
         bucket::file_counted(edges, ends, lower);
         return growth::grow(parents, weights, ends, jump, lower);
     }
-    bucket::tally(weights, edges, false);
+    placing::tally(weights, edges, false);
     bucket::file_counted_edges(parents, edges, ends, lower);
     growth::regrow(parents, ends, jump, lower)
 }

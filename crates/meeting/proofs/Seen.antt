@@ -17,7 +17,7 @@ use Rattle.game.specs.Graph.{Proper}
 use Rattle.game.specs.Net.{owner}
 use Rattle.game.proofs.Bools.{or-left, or-right}
 use Rattle.game.proofs.Proper.{proper-head, proper-tail}
-use Rattle.bucket.specs.Ends.{endOf}
+use Rattle.placing.specs.Ends.{endOf}
 use Rattle.bucket.specs.Filed.{lowerEnds}
 use Rattle.slots.specs.Given.{lowerCount}
 use Rattle.sorting.proofs.Values.{values-nil, values-here, values-other}

@@ -11,7 +11,7 @@ use native.Mathlib.Omega.{arith}
 use lib.ListN.{length, length-map, getD, take, drop, replicate, length-replicate, getD-replicate, List·getD-eq-default}
 use Rattle.game.specs.Edge.{Edge, lower}
 use Rattle.game.proofs.Tables.{tabulate-length, tabulate-entry, tabulate-unique}
-use Rattle.bucket.specs.Ends.{endOf, below}
+use Rattle.placing.specs.Ends.{endOf, below}
 use Rattle.bucket.specs.Filed.{lowerEnds}
 use Rattle.slots.specs.Given.{lowerCount, lowerCounts}
 use Rattle.bucket.proofs.Reading.{filed-consecutive, filed-holds}

@@ -18,7 +18,7 @@ use Rattle.game.specs.Graph.{Proper}
 use Rattle.game.proofs.Bools.{or-left, or-right}
 use Rattle.game.proofs.Edges.{edges-drop, edges-end}
 use Rattle.game.proofs.Proper.{proper-head, proper-tail}
-use Rattle.bucket.specs.Ends.{endOf}
+use Rattle.placing.specs.Ends.{endOf}
 use Rattle.waiting.specs.Steps.{nextAt, waiting, waitingIn, waits, Passable, Passes, Sweepable, Swept}
 use Rattle.waiting.proofs.Passing.{waiting-le}
 use Rattle.waiting.proofs.Coming.{waits-none, waits-away, waits-here}

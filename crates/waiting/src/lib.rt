@@ -1,5 +1,5 @@
 // Vertices that wait for the end of their count, and the pass over the list that tells it.
-use bucket::end_of;
+use placing::end_of;
 use table::wide;
 ghost use mathlib.Core.Path.{_≡_};
 ghost use Prim.Native.Nat.{_-_, _≤_};

@@ -3,7 +3,7 @@ use Prim.Native.Nat.{ℕ}
 use native.Mathlib.Omega.{arith}
 use borrow.Author.Needs.{needs}
 use Rattle.game.specs.Edge.{edges as edgesOf}
-use Rattle.bucket.specs.Steps.{upperCounts}
+use Rattle.placing.specs.Steps.{upperCounts}
 use Rattle.growth.proofs.NewParents.{links-blank}
 use Rattle.growth.proofs.Regrown.{filed-growable, grown-filed}
 use Rattle.growth.proofs.Rooms.{same-room}
