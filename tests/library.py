@@ -13,7 +13,7 @@ from oracle import between, calls, neighbours
 ROOT = pathlib.Path(__file__).resolve().parent.parent
 LIBRARY = ctypes.CDLL(str(ROOT / "target" / "lib" / "libniqastul.so"))
 
-GUARD = {"I": [0xA5A5A5A5] * 4, "B": [0xA5] * 4, "Q": [0x5A5A5A5A5A5A5A5A] * 2}
+GUARD = {code: array(code, words) for code, words in {"I": [0xA5A5A5A5] * 4, "B": [0xA5] * 4, "Q": [0x5A5A5A5A5A5A5A5A] * 2}.items()}
 
 # tables whose entries are not of 32 bits, by call
 CODES = {("save", "bytes"): "B", ("read", "bytes"): "B", ("report", "bound"): "Q", ("report", "volume"): "Q", ("query", "first"): "Q",
@@ -68,7 +68,7 @@ class Call:
 
 
 def guarded(code, table):
-    return array(code, GUARD[code]) + array(code, table) + array(code, GUARD[code])
+    return GUARD[code] + array(code, table) + GUARD[code]
 
 
 def unguarded(table):

@@ -1,6 +1,7 @@
 """The command line: python3 -m niqastul -h. Arguments are read and handed on here; what a command does stands in its module."""
 
 import argparse
+import functools
 import sys
 
 from . import Refused, between, busy, files, links, neighbours, picture, split, together
@@ -76,6 +77,7 @@ COMMANDS = (
 VERTICES = {"..": "+", ":2": 2}
 
 
+@functools.cache
 def parser():
     form = {"epilog": FORMATS, "formatter_class": argparse.RawDescriptionHelpFormatter}
     its = argparse.ArgumentParser("python3 -m niqastul", description=ABOUT, **form)
