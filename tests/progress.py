@@ -60,17 +60,18 @@ def say(line):
 
 def jobs():
     """How many crates or edits rt begins at a time. It begins them in batches and waits for the slowest of each, so that a processor idles
-    at the end of a batch: few large batches are better than many small ones, where there is memory for them."""
+    at the end of a batch: few large batches are better than many small ones, where there is memory for them. The largest crates take 4 GB,
+    most half of one."""
     memory = os.sysconf("SC_PAGE_SIZE") * os.sysconf("SC_PHYS_PAGES")
-    return max(1, min(8, 4 * (os.cpu_count() or 1), memory // (2 * GIGABYTE)))
+    return max(1, min(8, 4 * (os.cpu_count() or 1), 2 * memory // (5 * GIGABYTE)))
 
 
 def folder_in_memory():
     """A new folder in memory, or None. For each crate and edit the prover lays out what is proved of every crate below, thousands of small
-    files, and removes them again: on a disk that is a tenth of its time."""
+    files and up to 0.4 GB, and removes them again: on a disk that is a tenth of its time."""
     try:
         room = os.statvfs(MEMORY)
-        if room.f_flag & os.ST_NOEXEC or room.f_bavail * room.f_frsize < 2 * GIGABYTE:
+        if room.f_flag & os.ST_NOEXEC or room.f_bavail * room.f_frsize < jobs() * GIGABYTE // 2:
             return None
         folder = tempfile.mkdtemp(prefix="niqastul-", dir=MEMORY)
         os.chmod(folder, 0o711)  # rt runs programs from a folder in it, as nobody

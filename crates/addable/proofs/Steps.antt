@@ -18,7 +18,7 @@ use Rattle.tally.specs.Steps.{CountsUpper}
 use Rattle.growth.specs.Work.{NetWithWork, badWork}
 use Rattle.growth.proofs.Rooms.{good-work}
 use Rattle.addable.specs.Refused.{addRefusal}
-use Rattle.addable.specs.Steps.{listRefusal, ByList, TablesRead, ListRead}
+use Rattle.addable.specs.Steps.{listRefusal, TablesRead, ListRead}
 
 -- the tables refuse the call, by a number that is not 0
 pub tables-refused : (g : NetWithWork) (xs : List ℕ) (k : ℕ) {heavy : Bool} → addRefusal g xs ≡ suc k → TablesRead g xs (suc k) heavy
