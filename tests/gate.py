@@ -30,8 +30,8 @@ def run(steps, environment):
     proving = Proving([], with_edits=True)
     running = set()
 
-    def begin(name, command, its_environment=None, later=False):
-        steps[name] = Step(command, lines, its_environment, later)
+    def begin(name, command, its_environment=None):
+        steps[name] = Step(command, lines, its_environment)
         running.add(steps[name])
 
     begin("rt ci", ["rt", "ci"], environment)
@@ -56,8 +56,7 @@ def run(steps, environment):
             begin("tests/build", ["tests/build"], environment)
         preparing = {steps.get("tests/install"), steps.get("tests/build")} & running
         if "tests/run" not in steps and not preparing and (proving.proved() or steps["rt ci"] not in running):
-            # the edits end last, and leave processors idle at the end of each batch, which the tests can have
-            begin("tests/run", ["tests/run"], later=True)
+            begin("tests/run", ["tests/run"])
 
 
 def main():

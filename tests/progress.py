@@ -22,7 +22,6 @@ ROOT = Path(__file__).resolve().parent.parent
 TARGET = ROOT / "target"
 MEMORY = "/dev/shm"
 GIGABYTE = 1 << 30
-LATER = 8
 
 CRATE = re.compile(r"rt: (\w+) (proved(?!,)|NOT PROVED)(.*)")
 EDIT = re.compile(r"rt: must-fail (\w+/\S+): (.*)")
@@ -94,22 +93,15 @@ def proving_environment():
             shutil.rmtree(folder, ignore_errors=True)
 
 
-def step_back():
-    """Lets what runs beside this process go first, whether the system shares processors among processes or among sessions."""
-    os.nice(LATER)
-    with contextlib.suppress(OSError), open("/proc/self/autogroup", "w") as file:
-        file.write(str(LATER))
-
-
 class Step:
     """A command that runs beside others. Its lines go to a queue, as pairs of the step and a line; None is its end."""
 
-    def __init__(self, command, lines, environment=None, later=False):
+    def __init__(self, command, lines, environment=None):
         self.last = ""
         self.lines = lines
         # a session of its own, so that it can be stopped with all that it started
         self.process = subprocess.Popen(command, cwd=ROOT, stdout=subprocess.PIPE, stderr=subprocess.STDOUT, text=True, errors="replace",
-                                        env=environment, start_new_session=True, preexec_fn=step_back if later else None)
+                                        env=environment, start_new_session=True)
         threading.Thread(target=self.read, daemon=True).start()
 
     def read(self):
