@@ -26,12 +26,10 @@ def run(t, marks, ties, want, *context):
     return printed
 
 
-@test(at_least=20, given=THERE)
-def whole_case_run(t):
+@test(at_least=16, given=THERE)
+def missing_and_broken_files(t):
+    """The whole case with each file left out, or with part of a record."""
     marks, ties = file_of(*ORDER), file_of(*TIES)
-    t.same(run(t, marks, ties, file_of(4, 2)), WHOLE_CASE)
-    t.same(run(t, marks, ties, file_of(2, 2)), "refused 22\n")
-    t.true(run(t, marks, ties, file_of(4, 1)).endswith("volume 0 share 6 0\n"))
     for missing in range(3):
         files = [marks, ties, file_of(4, 2)]
         files[missing] = None
@@ -42,10 +40,6 @@ def whole_case_run(t):
         (6, (marks, ties[:-4], file_of(4, 2))),
         (6, (marks, ties, file_of(4, 2, 1))),
         (3, (file_of(0, 1, 1), ties, file_of(0, 0))),
-        (8, (marks, file_of(9, 9), file_of(0, 2))),
-        (8, (marks, file_of(9, 9), file_of(4, 1001))),
-        (4, (marks, file_of(9, 9), file_of(1, 2))),
-        (5, (marks, file_of(1, 1, 9, 9), file_of(1, 2))),
     ):
         t.same(run(t, *files), f"refused {number}\n")
 
