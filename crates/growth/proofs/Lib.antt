@@ -1,6 +1,7 @@
 pub mod NewParents
 pub mod Moves
 pub mod Climbs
+pub mod Gather
 pub mod Weigh
 pub mod Raise
 pub mod Rooms

@@ -1,78 +1,41 @@
--- From climbs to the forest: a bucket is gathered climb by climb, the vertices are raised bucket by bucket, and the table that
--- stands at the end is the elimination forest, because its links and the graph join the same vertices at the same heights.
+-- From buckets to the forest: the vertices are raised bucket by bucket, and the table that stands at the end is the elimination forest,
+-- because its links and the graph join the same vertices at the same heights.
 -- Assumes nothing.
-use mathlib.Core.Path.{_≡_, refl, sym, subst, _∙_}
+use mathlib.Core.Path.{_≡_, sym, subst, _∙_}
 use mathlib.Core.Logic.{_≢_, inl, inr, ⊎-elim, by-cases}
 use mathlib.Core.Bool.{Bool}
-use mathlib.Core.List.{List, List·Memᴰ}
+use mathlib.Core.List.{List, [], List·Memᴰ·not-nil}
 use Prim.Native.Nat.{ℕ, _+_, _≤_, _<_}
 use native.Mathlib.Nat.{le-refl, le-of-lt}
 use native.Mathlib.Omega.{arith}
 use native.Mathlib.Decide.{ℕ-discrete}
 use lib.ListN.{length, getD, replicate, length-replicate, getD-replicate}
-use Rattle.game.specs.Edge.{Edge, _─_}
+use Rattle.game.specs.Edge.{Edge}
 use Rattle.game.specs.Game.{absent, forest}
 use Rattle.game.specs.Tree.{links}
-use Rattle.game.proofs.Conn.{Conn, Within, conn-map, conn-step}
+use Rattle.game.proofs.Conn.{Conn, Within, conn-step}
 use Rattle.game.specs.Graph.{Linked, forth, back, Proper}
 use Rattle.game.proofs.Within.{within-up, conn-below}
 use Rattle.game.proofs.Sound.{Sound}
-use Rattle.game.proofs.Links.{link-of, link-inv, link-up, links-proper}
+use Rattle.game.proofs.Links.{link-inv, link-up, links-proper}
 use Rattle.game.proofs.Forest.{forest-unique}
 use Rattle.bucket.specs.Filed.{lowerEnds}
 use Rattle.bucket.proofs.LowerEnds.{lower-ends-linked, linked-lower-ends}
-use Rattle.growth.specs.Growth.{Above, Known, known, passed, Child, Standing, Kept, Climbed, Connects, Offers, Gathered, Gathers, Raised, newParents}
-
--- walks in the forest stay walks while parents are kept
-pub kept-conn : {was p : List ℕ} → length was ≡ length p → Kept was p → {t a b : ℕ} → Conn (links was) t a b → Conn (links p) t a b
-kept-conn {was} {p} same k = conn-map keep
-  where
-    link : {a b : ℕ} → (a < length was) × (getD was a absent ≡ b) × (b ≢ absent) → List·Memᴰ (a ─ b) (links p)
-    link h = link-of p (omega (arith, same, h .0)) (k .keeps _ (λ e. h .2 (sym (h .1) ∙ e)) ∙ h .1) (h .2)
-
-    keep : (a b : ℕ) → Linked (links was) a b → Linked (links p) a b
-    keep a b (forth m) = forth (link (link-inv was m))
-    keep a b (back m) = back (link (link-inv was m))
-
-kept-trans : {was p q : List ℕ} → Kept was p → Kept p q → Kept was q
-kept-trans k l = record { keeps = λ z f. l .keeps z (λ e. f (sym (k .keeps z f) ∙ e)) ∙ k .keeps z f }
-
--- a bucket of which nothing is gathered
-pub gather-start : {n y : ℕ} {E : List Edge} {bucket p jump : List ℕ} → Standing n E y 0 p jump → Gathered n E y 0 bucket p p jump
-gather-start s = record { standing = s; joined = λ i h. absurd (omega arith); kept = record { keeps = λ z f. refl } }
-
--- one climb more
-gather-step : {n y k : ℕ} {E : List Edge} {bucket was p jump p′ jump′ : List ℕ} → Gathered n E y k bucket was p jump → Climbed n E y (getD bucket k 0) p p′ jump′ → Gathered n E y (k + 1) bucket was p′ jump′
-gather-step {y = y} {k = k} {bucket = bucket} {p = p} {p′ = p′} g c = record {
-  standing = c .standing;
-  joined = λ i h. by-cases (ℕ-discrete i k)
-      (λ (e : i ≡ k). subst (λ (x : ℕ). Conn (links p′) y (getD bucket x 0) y) (sym e) (c .joined))
-      (λ (d : i ≢ k). kept-conn (g .standing .long ∙ sym (c .standing .long)) (c .kept) (g .joined i (omega arith)));
-  kept = kept-trans (g .kept) (c .kept);
-}
-
--- the same by what a climb promises
-pub gather-climb : {n y k u : ℕ} {E : List Edge} {bucket was p jump p′ jump′ : List ℕ} → length p ≡ n → u ≡ getD bucket k 0 → Connects u y p jump p′ jump′ → (getD bucket k 0 < y) × Conn E y (getD bucket k 0) y → Gathered n E y k bucket was (newParents p jump) jump → Gathered n E y (k + 1) bucket was (newParents p′ jump′) jump′
-gather-climb {y = y} {k = k} {E = E} {bucket = bucket} {was = was} {p = p} {jump = jump} {p′ = p′} {jump′ = jump′} e q c o =
-    subst (λ (m : ℕ). Gathered m E y k bucket was (newParents p jump) jump → Gathered m E y (k + 1) bucket was (newParents p′ jump′) jump′) e
-    (λ g. gather-step g (subst (λ (x : ℕ). Connects x y p jump p′ jump′) q c .climbed E (g .standing) (o .0) (o .1)))
-
--- as much as there is
-pub gather-end : {n y to k : ℕ} {E : List Edge} {bucket was p jump : List ℕ} → to ≤ k → Gathered n E y k bucket was p jump → Gathered n E y to bucket was p jump
-gather-end le g = record { standing = g .standing; joined = λ i h. g .joined i (omega arith); kept = g .kept }
+use Rattle.growth.specs.Growth.{Above, Known, known, passed, Child, Standing, Offers, Gathered, Gathers, Raised, newParents}
+use Rattle.growth.proofs.Gather.{kept-conn}
 
 -- with no climb under way the tables may stand at any greater height
-pub standing-up : {n y h : ℕ} {E : List Edge} {p jump : List ℕ} → y ≤ h → Standing n E y 0 p jump → Standing n E h 0 p jump
+pub standing-up : {n y h : ℕ} {E : List Edge} {p jump : List ℕ} → y ≤ h → Standing n E y [] p jump → Standing n E h [] p jump
 standing-up {n} {y} {h} {E} {p} {jump} le s = record { small = s .small; long = s .long; long-jump = s .long-jump; each = λ z h. ⊎-elim (λ r. inl r) (λ k. inr (child k)) (s .each z h) }
   where
     above : {z q : ℕ} → Above E y z q → Above E h z q
     above a = record { over = a .over; within = omega (arith, a .within); walk = a .walk }
 
-    joined : {z q : ℕ} → Known p y 0 z q → Known p h 0 z q
+    joined : {z q : ℕ} → Known p y [] z q → Known p h [] z q
     joined (known t) = known t
-    joined (passed e l t) = absurd (omega arith)
+    joined (passed e w m l t) = absurd (List·Memᴰ·not-nil m)
 
-    child : {z : ℕ} → Child E y 0 p jump z → Child E h 0 p jump z
+    child : {z : ℕ} → Child E y [] p jump z → Child E h [] p jump z
     child k = record { parent = above (k .parent); leap = above (k .leap); joined = joined (k .joined) }
 
 -- nothing is raised: every vertex is a root
@@ -92,16 +55,16 @@ offers-own : {n : ℕ} {E : List Edge} → Proper n E → (y : ℕ) → Offers E
 offers-own {E = E} proper y = record {
   offer = λ i h. let (m, l) = lower-ends-linked E y i h in
       let low : getD (lowerEnds E y) i 0 < y = omega (arith, proper .each (getD (lowerEnds E y) i 0) y l .2) in
-      (low, conn-step l (le-of-lt low) (le-refl y));
+      conn-step l (le-of-lt low) (le-refl y);
 }
 
 -- with the bucket gathered, y is raised too
-raise-step : {n y : ℕ} {E : List Edge} {p jump p′ jump′ : List ℕ} → Raised n E y p jump → Gathered n E y (length (lowerEnds E y)) (lowerEnds E y) p p′ jump′ → Raised n E (y + 1) p′ jump′
+raise-step : {n y : ℕ} {E : List Edge} {p jump p′ jump′ : List ℕ} → Raised n E y p jump → Gathered n E y (lowerEnds E y) p p′ jump′ → Raised n E (y + 1) p′ jump′
 raise-step {n} {y} {E} {p} {p′ = p′} r g = record { standing = standing-up (omega arith) (g .standing); covered = covered }
   where
     new : (a : ℕ) → Linked E a y → a < y → Conn (links p′) y a y
     new a l low = let (k, h, e) = linked-lower-ends E l low in
-        subst (λ (x : ℕ). Conn (links p′) y x y) e (g .joined k h)
+        subst (λ (x : ℕ). Conn (links p′) y x y) e (g .joins k h)
 
     covered : (a b : ℕ) → Linked E a b → a < b → b < y + 1 → Conn (links p′) b a b
     covered a b l low top = by-cases (ℕ-discrete b y)
@@ -111,10 +74,10 @@ raise-step {n} {y} {E} {p} {p′ = p′} r g = record { standing = standing-up (
 -- the same by what gathering promises of the bucket that is filed
 pub raise-gather : {n y : ℕ} {E : List Edge} {keep : Bool} {bucket weights p jump bucket′ weights′ p′ jump′ : List ℕ} → length p ≡ n → bucket ≡ lowerEnds E y → Gathers y keep bucket weights p jump bucket′ weights′ p′ jump′ → Proper n E → Raised n E y (newParents p jump) jump → Raised n E (y + 1) (newParents p′ jump′) jump′
 raise-gather {n} {y} {E} {bucket} {p = p} {jump = jump} {p′ = p′} {jump′ = jump′} e b g proper r =
-    raise-step r (subst (λ (us : List ℕ). Gathered n E y (length us) us (newParents p jump) (newParents p′ jump′) jump′) b (gathered e r))
+    raise-step r (subst (λ (us : List ℕ). Gathered n E y us (newParents p jump) (newParents p′ jump′) jump′) b (gathered e r))
   where
-    gathered : {m : ℕ} → length p ≡ m → Raised m E y (newParents p jump) jump → Gathered m E y (length bucket) bucket (newParents p jump) (newParents p′ jump′) jump′
-    gathered e = subst (λ (m : ℕ). Raised m E y (newParents p jump) jump → Gathered m E y (length bucket) bucket (newParents p jump) (newParents p′ jump′) jump′) e
+    gathered : {m : ℕ} → length p ≡ m → Raised m E y (newParents p jump) jump → Gathered m E y bucket (newParents p jump) (newParents p′ jump′) jump′
+    gathered e = subst (λ (m : ℕ). Raised m E y (newParents p jump) jump → Gathered m E y bucket (newParents p jump) (newParents p′ jump′) jump′) e
         (λ (q : Raised (length p) E y (newParents p jump) jump). g .gathered E (q .standing) (subst (Offers E y) (sym b) (offers-own proper y)))
 
 -- all vertices raised: the table is the elimination forest

@@ -86,6 +86,11 @@ unfolding leftOf
 left-one true u = refl
 left-one false u = refl
 
+-- where entries are cleared, lists of the same length leave the same
+pub left-alike : {keep : Bool} (us vs : List ℕ) → keep ≡ false → length us ≡ length vs → leftOf keep us ≡ leftOf keep vs
+unfolding leftOf
+left-alike us vs e l = rw e (ap (λ (n : ℕ). replicate n 0) l)
+
 -- nothing is read yet
 pub read-start : (keep : Bool) (was : List ℕ) → ReadUpTo keep was 0 was
 read-start keep was = record { long = refl; inside = omega arith; same = rw (left-nil keep) refl }

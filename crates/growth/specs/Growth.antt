@@ -6,7 +6,7 @@
 use mathlib.Core.Path.{_≡_}
 use mathlib.Core.Logic.{_⊎_}
 use mathlib.Core.Bool.{Bool, true, false, cond}
-use mathlib.Core.List.{List, _++_}
+use mathlib.Core.List.{List, [], _∷_, _++_, List·Memᴰ}
 use Prim.Native.Nat.{ℕ, _+_, _^_, _≤_, _<_}
 use lib.Dec.{eqb}
 use lib.ListN.{length, getD, take, drop, replicate}
@@ -32,42 +32,45 @@ pub record Above (E : List Edge) (y z q : ℕ) : Type 0 where
   pub within : q ≤ y
   pub walk : Conn E q z q
 
--- the forest joins z to where it jumps; or, while a climb for y stands at w, z is one of those that it passed
-pub data Known (p : List ℕ) (y w z q : ℕ) : Type 0 where
-  known : Conn (links p) q z q → Known p y w z q
-  passed : q ≡ y → z < w → Conn (links p) w z w → Known p y w z q
+-- the forest joins z to where it jumps; or z was passed by climbs for y, of which one stands at w still. The list ws is where climbs stand.
+pub data Known (p : List ℕ) (y : ℕ) (ws : List ℕ) (z q : ℕ) : Type 0 where
+  known : Conn (links p) q z q → Known p y ws z q
+  passed : q ≡ y → (w : ℕ) → List·Memᴰ w ws → z < w → Conn (links p) w z w → Known p y ws z q
 
 -- z has a parent and a jump
-pub record Child (E : List Edge) (y w : ℕ) (p jump : List ℕ) (z : ℕ) : Type 0 where
+pub record Child (E : List Edge) (y : ℕ) (ws p jump : List ℕ) (z : ℕ) : Type 0 where
   pub parent : Above E y z (getD p z absent)
   pub leap : Above E y z (getD jump z absent)
-  pub joined : Known p y w z (getD jump z absent)
+  pub joined : Known p y ws z (getD jump z absent)
 
--- the two tables while y's edges are taken in; w is where a climb stands, 0 when there is none
-pub record Standing (n : ℕ) (E : List Edge) (y w : ℕ) (p jump : List ℕ) : Type 0 where
+-- the two tables while y's edges are taken in and climbs stand at ws
+pub record Standing (n : ℕ) (E : List Edge) (y : ℕ) (ws p jump : List ℕ) : Type 0 where
   pub small : n ≤ absent
   pub long : length p ≡ n
   pub long-jump : length jump ≡ n
-  pub each : (z : ℕ) → z < n → Root p jump z ⊎ Child E y w p jump z
+  pub each : (z : ℕ) → z < n → Root p jump z ⊎ Child E y ws p jump z
+
+-- the forest joins z to y, or to where a climb for y stands
+pub data Joins (p : List ℕ) (y : ℕ) (ws : List ℕ) (z : ℕ) : Type 0 where
+  reaches : Conn (links p) y z y → Joins p y ws z
+  waits : (w : ℕ) → List·Memᴰ w ws → Conn (links p) w z w → Joins p y ws z
 
 -- parents that were there are there still
 pub record Kept (was p : List ℕ) : Type 0 where
   pub keeps : (z : ℕ) → (getD was z absent ≡ absent → ⊥) → getD p z absent ≡ getD was z absent
 
--- a climb from u for y stands at w
-pub record Climbing (n : ℕ) (E : List Edge) (y u w : ℕ) (was p jump : List ℕ) : Type 0 where
-  pub standing : Standing n E y w p jump
+-- a climb from u for y stands at w, others at ws; what waited at u waits there now, or is joined to y
+pub record Climbing (n : ℕ) (E : List Edge) (y u w : ℕ) (ws was p jump : List ℕ) : Type 0 where
+  pub standing : Standing n E y (w ∷ ws) p jump
   pub top : y < n
-  pub reached : w ≤ y
-  pub edge : Conn E y u y
-  pub walk : Conn E w u w
-  pub trail : Conn (links p) w u w
+  pub walk : Conn E y w y
+  pub brings : (z : ℕ) → Joins was y (u ∷ ws) z → Joins p y (w ∷ ws) z
   pub kept : Kept was p
 
--- the climb is done: the forest joins u to y
-pub record Climbed (n : ℕ) (E : List Edge) (y u : ℕ) (was p jump : List ℕ) : Type 0 where
-  pub standing : Standing n E y 0 p jump
-  pub joined : Conn (links p) y u y
+-- climbs from us are done, others stand at ws
+pub record Climbed (n : ℕ) (E : List Edge) (y : ℕ) (us ws was p jump : List ℕ) : Type 0 where
+  pub standing : Standing n E y ws p jump
+  pub brings : (z : ℕ) → Joins was y us z → Joins p y ws z
   pub kept : Kept was p
 
 -- a table of n jumps that lead higher, if anywhere: so a climb keeps within the tables and ends
@@ -84,26 +87,40 @@ newParents p jump = tabulate (length p) (λ (z : ℕ). cond (eqb (getD jump z ab
 pub record Untouched (p jump p′ jump′ : List ℕ) : Type 0 where
   pub each : (z : ℕ) → getD jump′ z absent ≡ absent → (getD jump z absent ≡ absent) × (getD p′ z absent ≡ getD p z absent)
 
--- what a climb from u for y promises, for whatever graph the tables stand for
+-- what a climb from u for y promises, for whatever graph the tables stand for and wherever other climbs stand
 pub record Connects (u y : ℕ) (p jump p′ jump′ : List ℕ) : Type 0 where
   pub upward : Upward (length p) jump′
   pub untouched : Untouched p jump p′ jump′
-  pub climbed : (E : List Edge) → Standing (length p) E y 0 (newParents p jump) jump → u < y → Conn E y u y
-      → Climbed (length p) E y u (newParents p jump) (newParents p′ jump′) jump′
+  pub climbed : (E : List Edge) (ws : List ℕ) → Standing (length p) E y (u ∷ ws) (newParents p jump) jump → Conn E y u y
+      → Climbed (length p) E y (u ∷ ws) ws (newParents p jump) (newParents p′ jump′) jump′
+
+-- what the first step of that climb promises, after which it stands at w
+pub record Steps (u y : ℕ) (p jump p′ jump′ : List ℕ) (w : ℕ) : Type 0 where
+  pub upward : Upward (length p) jump′
+  pub untouched : Untouched p jump p′ jump′
+  pub stepped : (E : List Edge) (ws : List ℕ) → Standing (length p) E y (u ∷ ws) (newParents p jump) jump → Conn E y u y
+      → Climbing (length p) E y u w ws (newParents p jump) (newParents p′ jump′) jump′
 
 -- each vertex of a list is weighed: 1 is added to its weight, if the table has one for it
 pub record Weighs (us weights weights′ : List ℕ) : Type 0 where
   pub long : length weights′ ≡ length weights
   pub each : (v : ℕ) → v < length weights → getD weights′ v 0 ≡ getD weights v 0 + count (λ (u : ℕ). eqb u v) us
 
--- a bucket holds vertices that the graph joins to y from below
-pub record Offers (E : List Edge) (y : ℕ) (bucket : List ℕ) : Type 0 where
-  pub offer : (i : ℕ) → i < length bucket → (getD bucket i 0 < y) × Conn E y (getD bucket i 0) y
+-- the graph joins each vertex of a list to y, at y's height
+pub record Offers (E : List Edge) (y : ℕ) (us : List ℕ) : Type 0 where
+  pub offer : (i : ℕ) → i < length us → Conn E y (getD us i 0) y
 
--- the forest joins the first k of them to y
-pub record Gathered (n : ℕ) (E : List Edge) (y k : ℕ) (bucket was p jump : List ℕ) : Type 0 where
-  pub standing : Standing n E y 0 p jump
-  pub joined : (i : ℕ) → i < k → Conn (links p) y (getD bucket i 0) y
+-- a climb was begun from each of the first k vertices of a bucket; they stand where the table says
+pub record Begun (n : ℕ) (E : List Edge) (y k : ℕ) (bucket table was p jump : List ℕ) : Type 0 where
+  pub standing : Standing n E y (take k table) p jump
+  pub offered : (i : ℕ) → i < k → Conn E y (getD table i 0) y
+  pub joins : (i : ℕ) → i < k → Joins p y (take k table) (getD bucket i 0)
+  pub kept : Kept was p
+
+-- the forest joins all vertices of a bucket to y
+pub record Gathered (n : ℕ) (E : List Edge) (y : ℕ) (bucket was p jump : List ℕ) : Type 0 where
+  pub standing : Standing n E y [] p jump
+  pub joins : (i : ℕ) → i < length bucket → Conn (links p) y (getD bucket i 0) y
   pub kept : Kept was p
 
 -- what is left of entries that were read: themselves, where they are kept, or zeros
@@ -117,18 +134,35 @@ pub record ReadUpTo (keep : Bool) (was : List ℕ) (i : ℕ) (table : List ℕ) 
   pub inside : i ≤ length was
   pub same : table ≡ leftOf keep (take i was) ++ drop i was
 
+-- what beginning a climb for y from each vertex of a bucket promises: the bucket then holds where they stand
+pub record Begins (y : ℕ) (bucket weights p jump bucket′ weights′ p′ jump′ : List ℕ) : Type 0 where
+  pub upward : Upward (length p) jump′
+  pub long : length bucket′ ≡ length bucket
+  pub weighed : Weighs bucket weights weights′
+  pub untouched : Untouched p jump p′ jump′
+  pub begun : (E : List Edge) → Standing (length p) E y [] (newParents p jump) jump → Offers E y bucket
+      → Begun (length p) E y (length bucket) bucket bucket′ (newParents p jump) (newParents p′ jump′) jump′
+
+-- what climbing for y from each vertex of a list promises
+pub record ConnectsAll (y : ℕ) (keep : Bool) (us p jump us′ p′ jump′ : List ℕ) : Type 0 where
+  pub upward : Upward (length p) jump′
+  pub leaves : us′ ≡ leftOf keep us
+  pub untouched : Untouched p jump p′ jump′
+  pub climbed : (E : List Edge) → Standing (length p) E y us (newParents p jump) jump → Offers E y us
+      → Climbed (length p) E y us [] (newParents p jump) (newParents p′ jump′) jump′
+
 -- what gathering a bucket for y promises
 pub record Gathers (y : ℕ) (keep : Bool) (bucket weights p jump bucket′ weights′ p′ jump′ : List ℕ) : Type 0 where
   pub upward : Upward (length p) jump′
   pub leaves : bucket′ ≡ leftOf keep bucket
   pub weighed : Weighs bucket weights weights′
   pub untouched : Untouched p jump p′ jump′
-  pub gathered : (E : List Edge) → Standing (length p) E y 0 (newParents p jump) jump → Offers E y bucket
-      → Gathered (length p) E y (length bucket) bucket (newParents p jump) (newParents p′ jump′) jump′
+  pub gathered : (E : List Edge) → Standing (length p) E y [] (newParents p jump) jump → Offers E y bucket
+      → Gathered (length p) E y bucket (newParents p jump) (newParents p′ jump′) jump′
 
 -- the vertices below y are raised: every edge with an upper end below y is a walk in the forest
 pub record Raised (n : ℕ) (E : List Edge) (y : ℕ) (p jump : List ℕ) : Type 0 where
-  pub standing : Standing n E y 0 p jump
+  pub standing : Standing n E y [] p jump
   pub covered : (a b : ℕ) → Linked E a b → a < b → b < y → Conn (links p) b a b
 
 -- no weight grows too large, whatever the buckets hold

@@ -1,98 +1,21 @@
 // The growth of a forest by union-find with path compression, over edges by rising upper end (document 001).
+use crate::climbing;
+use crate::weighing;
 use net::Net;
 use table::wide;
 ghost use mathlib.Core.Path.{_≡_};
-ghost use mathlib.Core.Bool.{cond};
-ghost use mathlib.Core.List.{[], _∷_};
-ghost use Prim.Native.Nat.{ℕ, _+_, _^_, _<_, _≤_};
-ghost use lib.ListN.{length, getD, take, replicate};
+ghost use Prim.Native.Nat.{_<_, _≤_};
+ghost use lib.ListN.{length, take, replicate};
 ghost use Rattle.game.specs.Game.{absent};
 ghost use Rattle.refusal.specs.Limits.{maxVertices};
 ghost use Rattle.moving.specs.Steps.{Differ};
 ghost use Rattle.growth.specs.Moves.{Moves};
 ghost use Rattle.growth.specs.Work.{workOf, cleared};
-ghost use Rattle.growth.specs.Growth.{Upward, Connects, Weighs, Light, Gathers, Blank, Raises, Growable, Grows, GrowsKept, Regrows};
+ghost use Rattle.growth.specs.Growth.{Upward, Light, Gathers, Blank, Raises, Growable, Grows, GrowsKept, Regrows};
 
-// Makes the root of u's tree a child of y, and every vertex on the way jump to y. A vertex jumps higher than it stands, so
-// the climb ends. Answers the lowest vertex that moved so far.
-pub fn climb(u: u32, y: u32, parents: &mut [u32], jump: &mut [u32], moved: u32) -> u32
-    requires { ⌜ (y < length (now parents)) × (length (now parents) ≤ maxVertices) × Upward (length (now parents)) (now jump) ⌝ }
-    ensures { λ r. ⌜ Connects u y (now (parents .entry)) (now (jump .entry)) (now (parents .exit)) (now (jump .exit)) × Moves (now (parents .entry)) (now (jump .entry)) moved (now (parents .exit)) (now (jump .exit)) r ⌝ }
-{
-    let mut w = u;
-    while w < y {
-        let at = w as usize;
-        let next = jump[at];
-        jump[at] = y;
-        if next == Net::ABSENT {
-            return moving::link(w, y, parents, moved);
-        }
-        w = next;
-    }
-    moved
-}
-
-// Adds 1 to the weight of u, if the table has one for it.
-fn weigh(u: u32, weights: &mut [u32])
-    requires { ⌜ ((v : ℕ) → v < length (now weights) → getD (now weights) v 0 + 1 < 2 ^ 32) ⌝ }
-    ensures { λ _. ⌜ Weighs (u ∷ []) (now (weights .entry)) (now (weights .exit)) ⌝ }
-{
-    let at = wide(u);
-    if at < weights.len() {
-        weights[at] += 1;
-    }
-}
-
-// What is left at a place that held u.
-fn left(keep: bool, u: u32) -> u32
-    ensures { λ r. ⌜ r ≡ cond keep u 0 ⌝ }
-{
-    if keep { u } else { 0 }
-}
-
-// From how many vertices on a bucket is weighed before a climb is made from any of it.
-const MANY: usize = 8;
-
-// Weighs each vertex of a list.
-fn weigh_all(vertices: &[u32], weights: &mut [u32])
-    requires { ⌜ Light (now weights) (now vertices) ⌝ }
-    ensures { λ _. ⌜ Weighs (now (vertices .entry)) (now (weights .entry)) (now (weights .exit)) ⌝ }
-{
-    let mut i = 0;
-    while i < vertices.len() {
-        weigh(vertices[i], weights);
-        i += 1;
-    }
-}
-
-// Climbs for y from each vertex of y's bucket and weighs it. Its place is kept, or cleared while it is at hand. Answers the lowest vertex
-// that moved so far.
-fn take_in(
-    y: u32,
-    keep: bool,
-    bucket: &mut [u32],
-    weights: &mut [u32],
-    parents: &mut [u32],
-    jump: &mut [u32],
-    moved: u32,
-) -> u32
-    requires { ⌜ (y < length (now parents)) × (length (now parents) ≤ maxVertices) × Upward (length (now parents)) (now jump) × Light (now weights) (now bucket) ⌝ }
-    ensures { λ r. ⌜ Gathers y keep (now (bucket .entry)) (now (weights .entry)) (now (parents .entry)) (now (jump .entry)) (now (bucket .exit)) (now (weights .exit)) (now (parents .exit)) (now (jump .exit)) × Moves (now (parents .entry)) (now (jump .entry)) moved (now (parents .exit)) (now (jump .exit)) r ⌝ }
-{
-    let mut lowest = moved;
-    let mut i = 0;
-    while i < bucket.len() {
-        let u = bucket[i];
-        bucket[i] = left(keep, u);
-        weigh(u, weights);
-        lowest = climb(u, y, parents, jump, lowest);
-        i += 1;
-    }
-    lowest
-}
-
-// Takes in y's bucket. Of a large one the weights are counted first, apart from the climbs: their places lie far apart, and one need not
-// wait for another.
+// Takes in y's bucket: climbs from each of its vertices and weighs it. The first steps of all climbs are made before any goes on, because
+// they lead far apart and need not wait for each other; they go on from the bucket's own places, so where those are kept, each climb is
+// made whole.
 fn gather(
     y: u32,
     keep: bool,
@@ -105,12 +28,12 @@ fn gather(
     requires { ⌜ (y < length (now parents)) × (length (now parents) ≤ maxVertices) × Upward (length (now parents)) (now jump) × Light (now weights) (now bucket) ⌝ }
     ensures { λ r. ⌜ Gathers y keep (now (bucket .entry)) (now (weights .entry)) (now (parents .entry)) (now (jump .entry)) (now (bucket .exit)) (now (weights .exit)) (now (parents .exit)) (now (jump .exit)) × Moves (now (parents .entry)) (now (jump .entry)) moved (now (parents .exit)) (now (jump .exit)) r ⌝ }
 {
-    if (bucket.len() < MANY) | (weights.len() == 0) {
-        return take_in(y, keep, bucket, weights, parents, jump, moved);
+    if keep {
+        weighing::weigh_all(bucket, weights);
+        return climbing::climb_all(y, keep, bucket, parents, jump, moved);
     }
-    weigh_all(bucket, weights);
-    let mut none = [0u32; 0];
-    take_in(y, keep, bucket, &mut none, parents, jump, moved)
+    let lowest = climbing::step_all(y, bucket, weights, parents, jump, moved);
+    climbing::climb_all(y, keep, bucket, parents, jump, lowest)
 }
 
 // What raising answers: where the last bucket ends, and the lowest vertex that moved.

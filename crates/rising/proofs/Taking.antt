@@ -19,7 +19,9 @@ use Rattle.game.proofs.Proper.{edge-left, edge-right, linked-nil}
 use Rattle.refusal.proofs.Fault.{faultless}
 use Rattle.placing.specs.Ends.{endOf}
 use Rattle.growth.specs.Growth.{Standing, Climbed, Connects, newParents}
-use Rattle.growth.proofs.Raise.{kept-conn, standing-up, raise-start, raise-end}
+use Rattle.growth.proofs.Climbs.{climb-alone, alone-joined}
+use Rattle.growth.proofs.Gather.{kept-conn}
+use Rattle.growth.proofs.Raise.{standing-up, raise-start, raise-end}
 use Rattle.rising.specs.Rising.{Rises, rise}
 
 -- the edges of E but for those of T are taken in
@@ -27,7 +29,7 @@ pub record Taking (n : ℕ) (E T : List Edge) (p jump : List ℕ) : Type 0 where
   pub last : ℕ
   pub rises : Rises n last T
   pub top : last ≤ n
-  pub standing : Standing n E last 0 p jump
+  pub standing : Standing n E last [] p jump
   pub among : (a b : ℕ) → Linked T a b → Linked E a b
   pub covered : (a b : ℕ) → Linked E a b → a < b → Linked T a b ⊎ Conn (links p) b a b
 
@@ -93,7 +95,7 @@ taking-edge {n} {a} {b} {E} {rest} {T} {u} {y} {p} {jump} {p′} {jump′} t hea
       last = endOf true (a ─ b);
       rises = r;
       top = le-of-lt (ends-order (faultless n a b f) .1);
-      standing = subst (λ (z : ℕ). Standing n E z 0 (newParents p′ jump′) jump′) high (climbed .standing);
+      standing = subst (λ (z : ℕ). Standing n E z [] (newParents p′ jump′) jump′) high (climbed .standing);
       among = λ c d k. t .among c d (behind c d k);
       covered = λ c d k h. ⊎-elim
           (λ k. ⊎-elim (λ k. inr (joined (ends-are (faultless n a b f) h k))) (λ k. inl k) (left c d k))
@@ -107,12 +109,11 @@ taking-edge {n} {a} {b} {E} {rest} {T} {u} {y} {p} {jump} {p′} {jump′} t hea
         walk : Conn E y u y
         walk = conn-step (subst₂ (Linked E) (sym low) (sym high) (ends-linked (faultless n a b f) own)) (le-of-lt (order .0)) (le-refl y)
 
-        climbed : Climbed n E y u (newParents p jump) (newParents p′ jump′) jump′
-        climbed = subst (λ (m : ℕ). Standing m E y 0 (newParents p jump) jump → Climbed m E y u (newParents p jump) (newParents p′ jump′) jump′) long (λ s. c .climbed E s (order .0) walk)
-            (standing-up (omega (arith, l, high)) (t .standing))
+        climbed : Climbed n E y (u ∷ []) [] (newParents p jump) (newParents p′ jump′) jump′
+        climbed = climb-alone long c (standing-up (omega (arith, l, high)) (t .standing)) walk
 
         joined : {c d : ℕ} → (endOf false (a ─ b) ≡ c) × (endOf true (a ─ b) ≡ d) → Conn (links (newParents p′ jump′)) d c d
-        joined (e, f) = subst₂ (λ (v z : ℕ). Conn (links (newParents p′ jump′)) z v z) (low ∙ e) (high ∙ f) (climbed .joined)
+        joined (e, f) = subst₂ (λ (v z : ℕ). Conn (links (newParents p′ jump′)) z v z) (low ∙ e) (high ∙ f) (alone-joined climbed)
 
 -- the ends of the next edge are in the table, the lower below the upper
 pub taking-ends : {n a b : ℕ} {E rest T : List Edge} {p jump : List ℕ} → Taking n E T p jump → T ≡ (a ─ b) ∷ rest → (endOf false (a ─ b) < endOf true (a ─ b)) × (endOf true (a ─ b) < n)

@@ -1,10 +1,22 @@
 use native.Mathlib.Omega.{arith}
+use mathlib.Core.Path.{sym, subst, _∙_}
+use Prim.Native.Nat.{ℕ}
+use Rattle.growth.specs.Growth.{Upward}
+use Rattle.growth.proofs.NewParents.{untouched-on}
+use Rattle.growth.proofs.Moves.{moves-on}
+use Rattle.growth.proofs.Gather.{gather-whole, gather-begun}
+use Rattle.growth.proofs.Weigh.{left-alike}
 use borrow.Author.Needs.{needs}
 use Rattle.growth.proofs.raising.gather.Statement.{statement}
 use Rattle.growth.proofs.raising.gather.Tie as tie
 
-take-in-requires : tie.Need-take-in-requires
-take-in-requires c κs = search needs
+weigh-all-requires : tie.Need-weigh-all-requires
+weigh-all-requires c κs = search needs
+
+climb-all-requires : tie.Need-climb-all-requires
+climb-all-requires c κs =
+    let (top, few, up, light) = c .before .before .before .before .before .before .before .before .before .before .before .before .before .pre in
+    (top, few, up)
 
 same-length : tie.Need-same-length
 same-length c = search needs
@@ -19,18 +31,18 @@ same-length-4 : tie.Need-same-length-4
 same-length-4 c = search needs
 
 returns : tie.Need-returns
-returns c = c .before .before .before .before .before .before .before .before .take-in .ensures
+returns c =
+    let (k, m) = c .before .before .before .before .before .before .climb-all .ensures in
+    (record { upward = k .upward; leaves = k .leaves; weighed = c .before .before .before .before .before .before .before .before .before .before .before .before .weigh-all .ensures; untouched = k .untouched; gathered = λ E s o. gather-whole k s o }, m)
 
-weigh-all-requires : tie.Need-weigh-all-requires
-weigh-all-requires c κs = search needs
+step-all-requires : tie.Need-step-all-requires
+step-all-requires c κs = search needs
 
-slice-aggregate-take-in : tie.Need-slice-aggregate-take-in
-slice-aggregate-take-in c = search needs
-
-take-in-requires-2 : tie.Need-take-in-requires-2
-take-in-requires-2 c κs =
-    let (y, few, up, light) = c .before .before .before .before .before .before .before .before .before .before .before .before .before .before .pre in
-    (y, few, up, record { light = λ v h. absurd (omega arith) })
+climb-all-requires-2 : tie.Need-climb-all-requires-2
+climb-all-requires-2 c κs =
+    let (top, few, up, light) = c .before .before .before .before .before .before .before .before .before .before .before .before .before .before .before .before .before .before .before .before .before .pre in
+    let same = c .before .before .before .before .before .before .before .before .before .before .before .step-all .kept .1 .1 .1 .0 in
+    (omega (arith, top, same), omega (arith, few, same), subst (λ (m : ℕ). Upward m (c .before .before .before .before .before .before .before .before .before .before .before .step-all .last .1 .1 .1 .1 .0)) (sym same) (c .before .before .before .before .before .before .before .before .before .before .before .step-all .ensures .0 .upward))
 
 same-length-5 : tie.Need-same-length-5
 same-length-5 c = search needs
@@ -44,25 +56,34 @@ same-length-7 c = search needs
 same-length-8 : tie.Need-same-length-8
 same-length-8 c = search needs
 
--- the weights were counted apart; what is taken in is the same
 returns-2 : tie.Need-returns-2
 returns-2 c =
-    let (g, m) = c .before .before .before .before .before .before .before .take-in2 .ensures in
-    (record { upward = g .upward; leaves = g .leaves; weighed = c .before .before .before .before .before .before .before .before .before .before .before .before .before .before .weigh-all .ensures; untouched = g .untouched; gathered = g .gathered }, m)
+    let (b, l) = c .before .before .before .before .before .before .before .before .before .before .before .before .before .before .before .before .before .before .step-all .ensures in
+    let (k, m) = c .before .before .before .before .before .before .climb-all2 .ensures in
+    let same = c .before .before .before .before .before .before .before .before .before .before .before .before .before .before .before .before .before .before .step-all .kept .1 .1 .1 .0 in (
+      record {
+        upward = subst (λ (m : ℕ). Upward m (c .before .before .before .before .before .before .climb-all2 .last .1 .1 .1 .1 .0)) same (k .upward);
+        leaves = k .leaves ∙ left-alike _ _ (c .before .before .before .before .before .before .before .before .before .before .before .before .before .before .before .before .before .before .before .before .before .before .before .if1 .left) (b .long);
+        weighed = b .weighed;
+        untouched = untouched-on (b .untouched) (k .untouched);
+        gathered = λ E s o. gather-begun same b k s o;
+      },
+      moves-on l m,
+    )
 
 pub gather-spec : {M : Type 1} → statement M
 gather-spec =
     tie.close
     (tie.spec
-    take-in-requires
+    weigh-all-requires
+    climb-all-requires
     same-length
     same-length-2
     same-length-3
     same-length-4
     returns
-    weigh-all-requires
-    slice-aggregate-take-in
-    take-in-requires-2
+    step-all-requires
+    climb-all-requires-2
     same-length-5
     same-length-6
     same-length-7

@@ -2,7 +2,7 @@ use native.Mathlib.Omega.{arith}
 use mathlib.Core.Path.{_≡_, refl}
 use mathlib.Core.Logic.{_≢_}
 use Prim.Native.Nat.{ℕ, _-_, _<_}
-use mathlib.Core.List.{List}
+use mathlib.Core.List.{List, _∷_}
 use lib.ListN.{length, length-set}
 use Rattle.game.specs.Edge.{Edge}
 use Rattle.game.proofs.Conn.{Conn}
@@ -13,8 +13,8 @@ use Rattle.growth.proofs.NewParents.{untouched-none, untouched-pass, un
 use Rattle.growth.proofs.Moves.{moves-none, moves-on, moves-pass, moves-link}
 use Rattle.growth.proofs.Climbs.{climb-start, climb-jump, climb-root, climb-done, upward-set, upward-next}
 use borrow.Author.Needs.{needs}
-use Rattle.growth.proofs.raising.climb.Statement.{statement}
-use Rattle.growth.proofs.raising.climb.Tie as tie
+use Rattle.growth.proofs.climbing.climb.Statement.{statement}
+use Rattle.growth.proofs.climbing.climb.Tie as tie
 
 -- where the climb stands, for whatever graph the tables stand for
 record Turn (u y moved : ℕ) (was jumps p jump : List ℕ) (w : ℕ) : Type 0 where
@@ -24,7 +24,7 @@ record Turn (u y moved : ℕ) (was jumps p jump : List ℕ) (w : ℕ) : Type 0 w
   upward : Upward (length was) jump
   untouched : Untouched was jumps p jump
   moves : Moves was jumps moved p jump moved
-  climbing : (E : List Edge) → Standing (length was) E y 0 (newParents was jumps) jumps → u < y → Conn E y u y → Climbing (length was) E y u w (newParents was jumps) (newParents p jump) jump
+  climbing : (E : List Edge) (ws : List ℕ) → Standing (length was) E y (u ∷ ws) (newParents was jumps) jumps → Conn E y u y → Climbing (length was) E y u w ws (newParents was jumps) (newParents p jump) jump
 
 abbrev Inv-loop : tie.InvT-loop
 Inv-loop u y parents₀ jump₀ moved w₀ parents jump w = Turn u y moved parents₀ jump₀ parents jump w
@@ -40,7 +40,7 @@ loop-holds c = record {
   upward = c .before .before .pre .2;
   untouched = untouched-none _ _;
   moves = moves-none _ _ _;
-  climbing = λ E s l e. climb-start s (c .before .before .pre .0) l e;
+  climbing = λ E ws s e. climb-start s (c .before .before .pre .0) e;
 }
 
 cast-at : tie.Need-cast-at Inv-loop μ-loop
@@ -77,7 +77,7 @@ returns c =
       record {
         upward = upward-set _ _ low (t .upward);
         untouched = untouched-on (t .untouched) (untouched-link _ _ inside (t .real));
-        climbed = λ E s l e. climb-root _ (t .climbing E s l e) low none;
+        climbed = λ E ws s e. climb-root _ (t .climbing E ws s e) low none;
       },
       moves-on (t .moves) (moves-link _ _ _ inside (t .real) none (omega (arith, low, t .top, t .same))),
     )
@@ -94,7 +94,7 @@ loop-again c = record {
   untouched = untouched-on (c .before .before .before .loop .inv .untouched) (untouched-pass _ _ (omega (arith, c .before .before .loop-test .taken, c .before .before .before .loop .inv .top, c .before .before .before .loop .inv .upward .long)) (c .before .before .before .loop .inv .real));
   moves = moves-on (c .before .before .before .loop .inv .moves) (moves-pass _ _ _ (omega (arith, c .before .before .loop-test .taken, c .before .before .before .loop .inv .top, c .before .before .before .loop .inv .upward .long)) (c .before .before .before .loop .inv .real));
   upward = upward-set _ _ (c .before .before .loop-test .taken) (c .before .before .before .loop .inv .upward);
-  climbing = λ E s l e. climb-jump _ (c .before .before .before .loop .inv .climbing E s l e) (c .before .before .loop-test .taken) (c .if1 .left);
+  climbing = λ E ws s e. climb-jump _ (c .before .before .before .loop .inv .climbing E ws s e) (c .before .before .loop-test .taken) (c .if1 .left);
 }
 
 same-length-3 : tie.Need-same-length-3 Inv-loop μ-loop
@@ -106,7 +106,7 @@ same-length-4 c = search needs
 returns-2 : tie.Need-returns-2 Inv-loop μ-loop
 returns-2 c =
     let t = c .before .loop .inv in
-    (record { upward = t .upward; untouched = t .untouched; climbed = λ E s l e. climb-done (t .climbing E s l e) (c .loop-test .left) }, t .moves)
+    (record { upward = t .upward; untouched = t .untouched; climbed = λ E ws s e. climb-done (t .climbing E ws s e) (c .loop-test .left) }, t .moves)
 
 pub climb-spec : {M : Type 1} → statement M
 climb-spec =

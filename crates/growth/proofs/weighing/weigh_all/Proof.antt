@@ -6,8 +6,8 @@ use lib.Seq.{take-length}
 use Rattle.growth.specs.Growth.{Weighs}
 use Rattle.growth.proofs.Weigh.{weighs-none, weighs-room, weighs-next}
 use borrow.Author.Needs.{needs}
-use Rattle.growth.proofs.raising.weigh_all.Statement.{statement}
-use Rattle.growth.proofs.raising.weigh_all.Tie as tie
+use Rattle.growth.proofs.weighing.weigh_all.Statement.{statement}
+use Rattle.growth.proofs.weighing.weigh_all.Tie as tie
 
 abbrev Inv-loop : tie.InvT-loop
 Inv-loop vertices weights₀ i₀ weights i = (i ≤ length vertices) × Weighs (take i vertices) weights₀ weights

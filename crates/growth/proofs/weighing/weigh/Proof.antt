@@ -1,7 +1,7 @@
 use Rattle.growth.proofs.Weigh.{weigh-one, weigh-none}
 use borrow.Author.Needs.{needs}
-use Rattle.growth.proofs.raising.weigh.Statement.{statement}
-use Rattle.growth.proofs.raising.weigh.Tie as tie
+use Rattle.growth.proofs.weighing.weigh.Statement.{statement}
+use Rattle.growth.proofs.weighing.weigh.Tie as tie
 
 wide-requires : tie.Need-wide-requires
 wide-requires c κs = search needs
