@@ -4,7 +4,7 @@ import sys
 
 import harness
 import test_oracle
-import test_lines
+import test_cases
 import test_interface
 import test_forest
 import test_moved
