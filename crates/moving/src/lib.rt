@@ -35,18 +35,31 @@ pub fn higher(a: u32, b: u32) -> u32
     if a < b { b } else { a }
 }
 
+// The lowest vertex that moved, of those so far and w, which is to get the parent y and has that from before still. Where a lower one has
+// moved, it need not be looked at, and so need not be waited for.
+fn lowest_with(w: u32, y: u32, parents: &[u32], moved: u32) -> u32
+    requires { ⌜ w < length (now parents) ⌝ }
+    ensures { λ r. ⌜ r ≡ movedWith moved w (getD (now (parents .entry)) w 0) y ⌝ }
+{
+    if moved <= w {
+        return moved;
+    }
+    let at = w as usize;
+    if parents[at] == y {
+        return moved;
+    }
+    lower(moved, w)
+}
+
 // Makes y the parent of w, which has the parent from before still. Answers the lowest vertex that moved, of those so far and w.
 pub fn link(w: u32, y: u32, parents: &mut [u32], moved: u32) -> u32
     requires { ⌜ w < length (now parents) ⌝ }
     ensures { λ r. ⌜ (now (parents .exit) ≡ set (now (parents .entry)) w y) × (r ≡ movedWith moved w (getD (now (parents .entry)) w 0) y) ⌝ }
 {
+    let lowest = lowest_with(w, y, parents, moved);
     let at = w as usize;
-    let old = parents[at];
     parents[at] = y;
-    if old == y {
-        return moved;
-    }
-    lower(moved, w)
+    lowest
 }
 
 // The answer by the lowest vertex that moved.
