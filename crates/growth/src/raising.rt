@@ -14,8 +14,8 @@ ghost use Rattle.growth.specs.Work.{workOf, cleared};
 ghost use Rattle.growth.specs.Growth.{Upward, Light, Gathers, Blank, Raises, Growable, Grows, GrowsKept, Regrows};
 
 // Takes in y's bucket: climbs from each of its vertices and weighs it. The first steps of all climbs are made before any goes on, because
-// they lead far apart and need not wait for each other; they go on from the bucket's own places, so where those are kept, each climb is
-// made whole.
+// they lead far apart and need not wait for each other. They go on from the bucket's own places, so where those are kept, each climb is
+// made whole; and where there are no weights, because then most of what is filed are links, one or two to a bucket.
 fn gather(
     y: u32,
     keep: bool,
@@ -28,7 +28,7 @@ fn gather(
     requires { ⌜ (y < length (now parents)) × (length (now parents) ≤ maxVertices) × Upward (length (now parents)) (now jump) × Light (now weights) (now bucket) ⌝ }
     ensures { λ r. ⌜ Gathers y keep (now (bucket .entry)) (now (weights .entry)) (now (parents .entry)) (now (jump .entry)) (now (bucket .exit)) (now (weights .exit)) (now (parents .exit)) (now (jump .exit)) × Moves (now (parents .entry)) (now (jump .entry)) moved (now (parents .exit)) (now (jump .exit)) r ⌝ }
 {
-    if keep {
+    if keep | (weights.len() == 0) {
         weighing::weigh_all(bucket, weights);
         return climbing::climb_all(y, keep, bucket, parents, jump, moved);
     }

@@ -1,6 +1,7 @@
 use native.Mathlib.Omega.{arith}
 use mathlib.Core.Path.{sym, subst, _∙_}
 use Prim.Native.Nat.{ℕ}
+use Rattle.game.proofs.Bools.{or-neither}
 use Rattle.growth.specs.Growth.{Upward}
 use Rattle.growth.proofs.NewParents.{untouched-on}
 use Rattle.growth.proofs.Moves.{moves-on}
@@ -63,7 +64,7 @@ returns-2 c =
     let same = c .before .before .before .before .before .before .before .before .before .before .before .before .before .before .before .before .before .before .step-all .kept .1 .1 .1 .0 in (
       record {
         upward = subst (λ (m : ℕ). Upward m (c .before .before .before .before .before .before .climb-all2 .last .1 .1 .1 .1 .0)) same (k .upward);
-        leaves = k .leaves ∙ left-alike _ _ (c .before .before .before .before .before .before .before .before .before .before .before .before .before .before .before .before .before .before .before .before .before .before .before .if1 .left) (b .long);
+        leaves = k .leaves ∙ left-alike _ _ (or-neither _ _ (c .before .before .before .before .before .before .before .before .before .before .before .before .before .before .before .before .before .before .before .before .before .before .before .if1 .left) .0) (b .long);
         weighed = b .weighed;
         untouched = untouched-on (b .untouched) (k .untouched);
         gathered = λ E s o. gather-begun same b k s o;
