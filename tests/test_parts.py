@@ -17,8 +17,9 @@ from test_oracle import file_of
 MISSING = None if shutil.which("mpicc") and shutil.which("mpirun") else "no MPI (Debian: libopenmpi-dev openmpi-bin)"
 COUNTS = (1, 2, 3, 4)
 
-# no remote processes, no copies between processes that a container forbids, no wait where processes end with a refusal
-SETTINGS = {"plm": "isolated", "btl_vader_single_copy_mechanism": "none", "odls_base_sigkill_timeout": "0"}
+# no remote processes, no copies between processes that a container forbids, no wait where processes end with a refusal, and no processor
+# kept busy by one that waits
+SETTINGS = {"plm": "isolated", "btl_vader_single_copy_mechanism": "none", "odls_base_sigkill_timeout": "0", "mpi_yield_when_idle": "1"}
 ENVIRONMENT = os.environ | {"OMPI_MCA_" + name: value for name, value in SETTINGS.items()}
 
 
