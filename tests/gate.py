@@ -1,5 +1,5 @@
-"""The gate. Proves every crate from nothing, tries the must-fail edits and runs the programs (rt ci); builds the library from the proved
-crates and runs the tests from outside (tests/run). The library is built as soon as `exports` is proved, beside the programs, and the tests
+"""The gate. Proves every crate from nothing, tries the must-fail edits and runs the program (rt ci); builds the library from the proved
+crates and runs the tests from outside (tests/run). The library is built as soon as `exports` is proved, beside the program, and the tests
 begin as soon as every crate is proved, beside the edits: they write only the library and their own files, and rt ci removes target/ at
 its start alone. What the tests need is installed meanwhile. The last line is 'N passed, M failed', of both together."""
 

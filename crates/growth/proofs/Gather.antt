@@ -3,14 +3,14 @@
 use mathlib.Core.Path.{_≡_, refl, sym, ap, subst, _∙_}
 use mathlib.Core.Logic.{_≢_, ⊎-elim, by-cases}
 use mathlib.Core.Bool.{Bool}
-use mathlib.Core.List.{List, [], _∷_, _++_, List·Memᴰ, List·Memᴰ·head, List·Memᴰ·tail, List·Memᴰ·cases-cons, List·Memᴰ·not-nil, Memᴰ·append-left, Memᴰ·append-right}
+use mathlib.Core.List.{List, [], _∷_, List·Memᴰ, List·Memᴰ·head, List·Memᴰ·tail, List·Memᴰ·cases-cons, List·Memᴰ·not-nil, Memᴰ·append-left, Memᴰ·append-right}
 use Prim.Native.Nat.{ℕ, _+_, _≤_, _<_}
 use native.Mathlib.Nat.{le-refl}
 use native.Mathlib.Numerals.{add-one}
 use native.Mathlib.Omega.{arith}
 use native.Mathlib.Decide.{ℕ-discrete}
-use lib.ListN.{length, getD, set, take, drop, length-set, take-append-drop, drop-of-length-le}
-use lib.Seq.{getD-set-same, getD-set-other, take-suc, take-set-le, take-all, drop-cons}
+use lib.ListN.{length, getD, set, take, drop, take-append-drop, drop-of-length-le}
+use lib.Seq.{getD-set-same, getD-set-other, take-suc-set, take-all, drop-cons}
 use Rattle.game.specs.Edge.{Edge, _─_}
 use Rattle.game.specs.Game.{absent}
 use Rattle.game.specs.Tree.{links}
@@ -44,10 +44,6 @@ member-at us i h =
 pub begin-start : {n y : ℕ} {E : List Edge} {bucket table p jump : List ℕ} → Standing n E y [] p jump → Begun n E y 0 bucket table p p jump
 begin-start s = record { standing = s; offered = λ i h. absurd (omega arith); joins = λ i h. absurd (omega arith); kept = record { keeps = λ z f. refl } }
 
-with-next : (table : List ℕ) (k w : ℕ) → k < length table → take (k + 1) (set table k w) ≡ take k table ++ (w ∷ [])
-with-next table k w inside =
-    rw (add-one k, take-suc (set table k w) k 0 (omega (arith, length-set table k w)), take-set-le k table k w (le-refl k), getD-set-same table k w 0 inside) refl
-
 -- one climb more is begun, and stands at w
 begin-step : {n y k u w : ℕ} {E : List Edge} {bucket table was p jump p′ jump′ : List ℕ} → k < length table → u ≡ getD bucket k 0
     → Begun n E y k bucket table was p jump → Climbing n E y u w (take k table) p p′ jump′ → Begun n E y (k + 1) bucket (set table k w) was p′ jump′
@@ -63,7 +59,7 @@ begin-step {y = y} {k = k} {u = u} {w = w} {E = E} {bucket = bucket} {table = ta
 }
   where
     listed : Carries p′ y (w ∷ take k table) (take (k + 1) (set table k w))
-    listed = rw (with-next table k w inside) (carries-among (λ v m. ⊎-elim (λ e. Memᴰ·append-right (take k table) (List·Memᴰ·head e)) (λ i. Memᴰ·append-left (w ∷ []) i) (List·Memᴰ·cases-cons m)))
+    listed = rw (add-one k, take-suc-set table k w inside) (carries-among (λ v m. ⊎-elim (λ e. Memᴰ·append-right (take k table) (List·Memᴰ·head e)) (λ i. Memᴰ·append-left (w ∷ []) i) (List·Memᴰ·cases-cons m)))
 
 -- the same by what a step promises
 pub begin-next : {n y k u w : ℕ} {E : List Edge} {bucket table was p jump p′ jump′ : List ℕ} → length p ≡ n → k < length table → u ≡ getD bucket k 0 → Steps u y p jump p′ jump′ w → Conn E y (getD bucket k 0) y

@@ -35,8 +35,8 @@ pub fn higher(a: u32, b: u32) -> u32
     if a < b { b } else { a }
 }
 
-// The lowest vertex that moved, of those so far and w, which is to get the parent y and has that from before still. Where a lower one has
-// moved, it need not be looked at, and so need not be waited for.
+// The lowest vertex that moved, of those so far and w, which is about to get the parent y. Where a lower one has moved, the old parent of w
+// need not be read, and so need not be waited for.
 fn lowest_with(w: u32, y: u32, parents: &[u32], moved: u32) -> u32
     requires { ⌜ w < length (now parents) ⌝ }
     ensures { λ r. ⌜ r ≡ movedWith moved w (getD (now (parents .entry)) w 0) y ⌝ }
