@@ -23,7 +23,7 @@ MEASURED = {
     "threads": ("Growing a net in two threads", "threads", "one thread"),
 }
 
-PEERS = """Milliseconds of processor time, the best of 15 rounds, of 3 where there are more than 4,000,000 edges, in each of which
+PEERS = """Milliseconds of processor time, the best of 15 rounds, of 7 where there are more than 4,000,000 edges, in each of which
 every contender runs once. `niqastul` is the whole public call, with its refusals, weights and cleared work tables. `SuiteSparse`
 builds compressed columns from the edge list into tables that exist already and calls CXSparse's `cs_etree`; `cs_compress` goes
 through its triplet form. Neither checks its input or counts weights. `plain C` is the bare algorithm of the library, compiled by
