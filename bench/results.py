@@ -1,9 +1,13 @@
-"""Turns what bench prints into a page of tables and a plot for each call: results.py RESULTS.tsv FOLDER"""
+"""Turns what bench prints into a page of tables and a plot for each call: results.py RESULTS.tsv FOLDER [FILE], where FILE keeps the page"""
 
+import datetime
 import math
 import pathlib
 import platform
 import sys
+
+# what the page begins with, in the file that keeps it too
+HEADING = "## Measured"
 
 # what is measured: its heading, its file, the column that ratios are taken to
 MEASURED = {
@@ -176,16 +180,32 @@ def processor():
     return lines[0].split(":", 1)[1].strip() if lines else platform.machine()
 
 
-def main(results, folder):
-    rows, folder = list(rows_of(results)), pathlib.Path(folder)
-    page = ["# Measurements\n", PEERS, f"Machine: {processor()}, {platform.system()} {platform.release()}.\n",
-            "The last column is the factor from a net a tenth as large, the peer's in brackets.\n", "## Goals\n", goals(rows)]
+def measured(rows):
+    """What is measured that the rows have: for each its heading, its plot's name, its rows and what they are compared with."""
     for what, (heading, name, against) in MEASURED.items():
         here = [row for row in rows if row[0] == what]
         if here:
-            page += [f"## {heading}\n", table(here, against), f"![{heading}]({name}.svg)\n"]
-            (folder / f"{name}.svg").write_text(plot(heading, here))
-    (folder / "results.md").write_text("\n".join(page))
+            yield heading, name, here, against
+
+
+def page(rows, plots):
+    """All tables, with the plots in a folder."""
+    parts = [f"{HEADING} on {datetime.date.today()}\n", PEERS, f"Machine: {processor()}, {platform.system()} {platform.release()}.\n",
+             "The last column is the factor from a net a tenth as large, the peer's in brackets.\n", "### Goals\n", goals(rows)]
+    for heading, name, here, against in measured(rows):
+        parts += [f"### {heading}\n", table(here, against), f"![{heading}]({plots}{name}.svg)\n"]
+    return "\n".join(parts)
+
+
+def main(results, folder, kept=None):
+    """Writes the page and the plots to a folder. The file that keeps measurements gets the page in place of what it kept last."""
+    rows, folder = list(rows_of(results)), pathlib.Path(folder)
+    for heading, name, here, _ in measured(rows):
+        (folder / f"{name}.svg").write_text(plot(heading, here))
+    (folder / "results.md").write_text(page(rows, ""))
+    if kept:
+        kept = pathlib.Path(kept)
+        kept.write_text(kept.read_text().split(HEADING)[0] + page(rows, "../bench/results/"))
 
 
 main(*sys.argv[1:])

@@ -63,7 +63,7 @@ def jobs():
     at the end of a batch: few large batches are better than many small ones, where there is memory for them. The largest crates take 4 GB,
     most half of one."""
     memory = os.sysconf("SC_PAGE_SIZE") * os.sysconf("SC_PHYS_PAGES")
-    return max(1, min(16, 8 * (os.cpu_count() or 1), 2 * memory // (3 * GIGABYTE)))
+    return max(1, min(16, 8 * (os.cpu_count() or 1), 4 * (memory - 4 * GIGABYTE) // (5 * GIGABYTE)))
 
 
 def folder_in_memory():
