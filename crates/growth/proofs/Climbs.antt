@@ -1,5 +1,5 @@
 -- One climb: from a lower neighbour u of y up to the root of u's tree, which becomes a child of y. Every vertex on the way then
--- jumps to y. The laws follow the loop's three ways: it jumps on, it finds the root, it arrives at y. Other climbs may stand elsewhere
+-- jumps to y. The laws follow a step's three ways: it jumps on, it finds the root, it is at y already. Other climbs may stand elsewhere
 -- meanwhile: whoever waits for one of them waits on.
 -- Assumes nothing.
 use mathlib.Core.Path.{_≡_, refl, sym, ap, subst, _∙_}
@@ -18,7 +18,7 @@ use Rattle.game.proofs.Conn.{Conn, stay, conn-from, conn-trans, conn-sym, conn-
 use Rattle.game.specs.Graph.{Linked, forth, back}
 use Rattle.game.proofs.Sound.{getD-default}
 use Rattle.game.proofs.Links.{link-set-old, link-set-new}
-use Rattle.growth.specs.Growth.{Root, Above, Known, known, passed, Child, Standing, Joins, reaches, waits, Climbing, Climbed, Connects, Upward, newParents}
+use Rattle.growth.specs.Growth.{Root, Above, Known, known, passed, Child, Standing, Joins, reaches, waits, Kept, Climbing, Climbed, Connects, Steps, Upward, newParents}
 use Rattle.growth.proofs.NewParents.{new-length, new-pass, new-link}
 
 -- whoever stands at ws is joined to y or to where climbs stand then: so is whoever waits there
@@ -78,9 +78,6 @@ module _ {n y u w : ℕ} {E : List Edge} {ws was p jump : List ℕ} (c : Climbin
   inside : w < length jump
   inside = omega (arith, c .standing .long-jump, below)
 
-  jumped : (z : ℕ) → z ≢ w → getD (set jump w y) z absent ≡ getD jump z absent
-  jumped z d = getD-set-other jump w z y absent d
-
   landed : getD (set jump w y) w absent ≡ y
   landed = getD-set-same jump w y absent inside
 
@@ -113,8 +110,8 @@ module _ {n y u w : ℕ} {E : List Edge} {ws was p jump : List ℕ} (c : Climbin
   moved : (z : ℕ) → z ≢ w → Child E y (w ∷ ws) p jump z → Child E y (getD jump w absent ∷ ws) p (set jump w y) z
   moved z d k = record {
     parent = k .parent;
-    leap = subst (Above E y z) (sym (jumped c low z d)) (k .leap);
-    joined = subst (Known p y (getD jump w absent ∷ ws) z) (sym (jumped c low z d)) (known-on carries (k .joined));
+    leap = subst (Above E y z) (sym (getD-set-other jump w z y absent d)) (k .leap);
+    joined = subst (Known p y (getD jump w absent ∷ ws) z) (sym (getD-set-other jump w z y absent d)) (known-on carries (k .joined));
   }
 
   self : Child E y (getD jump w absent ∷ ws) p (set jump w y) w
@@ -128,7 +125,7 @@ module _ {n y u w : ℕ} {E : List Edge} {ws was p jump : List ℕ} (c : Climbin
   each-on z h = by-cases (ℕ-discrete z w)
       (λ (e : z ≡ w). inr (subst (Child E y (getD jump w absent ∷ ws) p (set jump w y)) (sym e) self))
       (λ (d : z ≢ w). ⊎-elim
-      (λ r. inl (record { no-parent = r .no-parent; no-jump = jumped c low z d ∙ r .no-jump }))
+      (λ r. inl (record { no-parent = r .no-parent; no-jump = getD-set-other jump w z y absent d ∙ r .no-jump }))
       (λ k. inr (moved z d k))
       (c .standing .each z h))
 
@@ -170,14 +167,11 @@ module _ {n y u w : ℕ} {E : List Edge} {ws was p jump : List ℕ} (c : Climbin
   carries-link : Carries (set p w y) y (w ∷ ws) ws
   carries-link = carries-first (reaches linked) (λ v m. m)
 
-  other : (z : ℕ) → z ≢ w → getD (set p w y) z absent ≡ getD p z absent
-  other z d = getD-set-other p w z y absent d
-
   fixed : (z : ℕ) → z ≢ w → Child E y (w ∷ ws) p jump z → Child E y ws (set p w y) (set jump w y) z
   fixed z d k = record {
-    parent = subst (Above E y z) (sym (other z d)) (k .parent);
-    leap = subst (Above E y z) (sym (jumped c low z d)) (k .leap);
-    joined = subst (Known (set p w y) y ws z) (sym (jumped c low z d)) (known-on carries-link (known-grown (k .joined)));
+    parent = subst (Above E y z) (sym (getD-set-other p w z y absent d)) (k .parent);
+    leap = subst (Above E y z) (sym (getD-set-other jump w z y absent d)) (k .leap);
+    joined = subst (Known (set p w y) y ws z) (sym (getD-set-other jump w z y absent d)) (known-on carries-link (known-grown (k .joined)));
   }
 
   new-child : Child E y ws (set p w y) (set jump w y) w
@@ -191,14 +185,14 @@ module _ {n y u w : ℕ} {E : List Edge} {ws was p jump : List ℕ} (c : Climbin
   each-linked z h = by-cases (ℕ-discrete z w)
       (λ (e : z ≡ w). inr (subst (Child E y ws (set p w y) (set jump w y)) (sym e) new-child))
       (λ (d : z ≢ w). ⊎-elim
-      (λ r. inl (record { no-parent = other z d ∙ r .no-parent; no-jump = jumped c low z d ∙ r .no-jump }))
+      (λ r. inl (record { no-parent = getD-set-other p w z y absent d ∙ r .no-parent; no-jump = getD-set-other jump w z y absent d ∙ r .no-jump }))
       (λ k. inr (fixed z d k))
       (c .standing .each z h))
 
   kept-on : (z : ℕ) → (getD was z absent ≡ absent → ⊥) → getD (set p w y) z absent ≡ getD was z absent
   kept-on z f = by-cases (ℕ-discrete z w)
       (λ (e : z ≡ w). absurd (f (sym (c .kept .keeps z f) ∙ subst (λ (x : ℕ). getD p x absent ≡ absent) (sym e) (root .no-parent))))
-      (λ (d : z ≢ w). other z d ∙ c .kept .keeps z f)
+      (λ (d : z ≢ w). getD-set-other p w z y absent d ∙ c .kept .keeps z f)
 
   climb-link : Climbed n E y (u ∷ ws) ws was (set p w y) (set jump w y)
   climb-link = record {
@@ -217,6 +211,17 @@ climb-done {y = y} {w = w} {ws = ws} {p = p} c high = record { standing = standi
 -- before the climb
 pub climb-start : {n y u : ℕ} {E : List Edge} {ws p jump : List ℕ} → Standing n E y (u ∷ ws) p jump → y < n → Conn E y u y → Climbing n E y u u ws p p jump
 climb-start s top e = record { standing = s; top = top; walk = e; brings = λ z j. j; kept = record { keeps = λ z f. refl } }
+
+pub kept-trans : {was p q : List ℕ} → Kept was p → Kept p q → Kept was q
+kept-trans k l = record { keeps = λ z f. l .keeps z (λ e. f (sym (k .keeps z f) ∙ e)) ∙ k .keeps z f }
+
+-- one step more, by what a step promises
+pub climb-next : {n y u w v : ℕ} {E : List Edge} {ws was p jump p′ jump′ : List ℕ} → length p ≡ n → Steps w y p jump p′ jump′ v
+    → Climbing n E y u w ws was (newParents p jump) jump → Climbing n E y u v ws was (newParents p′ jump′) jump′
+climb-next {y = y} {u = u} {w = w} {v = v} {E = E} {ws = ws} {was = was} {p = p} {jump = jump} {p′ = p′} {jump′ = jump′} e s =
+    subst (λ (m : ℕ). Climbing m E y u w ws was (newParents p jump) jump → Climbing m E y u v ws was (newParents p′ jump′) jump′) e
+    (λ c. let d = s .stepped E ws (c .standing) (c .walk) in
+    record { standing = d .standing; top = c .top; walk = d .walk; brings = λ z j. d .brings z (c .brings z j); kept = kept-trans (c .kept) (d .kept) })
 
 -- a climb that is done, listed as one that has arrived at y
 pub climb-ended : {n y u : ℕ} {E : List Edge} {ws was p jump : List ℕ} → y < n → Climbed n E y (u ∷ ws) ws was p jump → Climbing n E y u y ws was p jump

@@ -18,7 +18,7 @@ use Rattle.game.specs.Graph.{Linked, forth, back}
 use Rattle.game.proofs.Conn.{Conn, stay, conn-map}
 use Rattle.game.proofs.Links.{link-of, link-inv}
 use Rattle.growth.specs.Growth.{Standing, Joins, waits, Kept, Climbing, Climbed, Connects, Steps, Offers, Begun, Begins, Gathered, ConnectsAll, newParents}
-use Rattle.growth.proofs.Climbs.{Carries, joins-on, joins-end, standing-on, carries-among}
+use Rattle.growth.proofs.Climbs.{Carries, joins-on, joins-end, standing-on, carries-among, kept-trans}
 
 -- walks in the forest stay walks while parents are kept
 pub kept-conn : {was p : List ℕ} → length was ≡ length p → Kept was p → {t a b : ℕ} → Conn (links was) t a b → Conn (links p) t a b
@@ -30,9 +30,6 @@ kept-conn {was} {p} same k = conn-map keep
     keep : (a b : ℕ) → Linked (links was) a b → Linked (links p) a b
     keep a b (forth m) = forth (link (link-inv was m))
     keep a b (back m) = back (link (link-inv was m))
-
-kept-trans : {was p q : List ℕ} → Kept was p → Kept p q → Kept was q
-kept-trans k l = record { keeps = λ z f. l .keeps z (λ e. f (sym (k .keeps z f) ∙ e)) ∙ k .keeps z f }
 
 -- an entry of a list is one of its members
 member-at : (us : List ℕ) (i : ℕ) → i < length us → List·Memᴰ (getD us i 0) us

@@ -94,8 +94,9 @@ pub record Connects (u y : ℕ) (p jump p′ jump′ : List ℕ) : Type 0 where
   pub climbed : (E : List Edge) (ws : List ℕ) → Standing (length p) E y (u ∷ ws) (newParents p jump) jump → Conn E y u y
       → Climbed (length p) E y (u ∷ ws) ws (newParents p jump) (newParents p′ jump′) jump′
 
--- what the first step of that climb promises, after which it stands at w
+-- what a step of a climb for y from u promises, after which it stands at w
 pub record Steps (u y : ℕ) (p jump p′ jump′ : List ℕ) (w : ℕ) : Type 0 where
+  pub higher : u < y → u < w
   pub upward : Upward (length p) jump′
   pub untouched : Untouched p jump p′ jump′
   pub stepped : (E : List Edge) (ws : List ℕ) → Standing (length p) E y (u ∷ ws) (newParents p jump) jump → Conn E y u y

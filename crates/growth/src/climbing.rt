@@ -10,23 +10,47 @@ ghost use Rattle.refusal.specs.Limits.{maxVertices};
 ghost use Rattle.growth.specs.Moves.{Moves};
 ghost use Rattle.growth.specs.Growth.{Upward, Connects, Steps, ConnectsAll, Light, Begins};
 
-// Makes the root of u's tree a child of y, and every vertex on the way jump to y. A vertex jumps higher than it stands, so
-// the climb ends. Answers the lowest vertex that moved so far.
+// Where a climb stands after a step, y if it has ended, and the lowest vertex that moved so far.
+struct Stand {
+    at: u32,
+    moved: u32,
+}
+
+// Makes a step of a climb for y, which stands at w: w jumps to y from now on. A root becomes a child of y, and the climb has ended; else it
+// goes on from where w jumped to, which is higher.
+fn step(w: u32, y: u32, parents: &mut [u32], jump: &mut [u32], moved: u32) -> Stand
+    requires { ⌜ (y < length (now parents)) × (length (now parents) ≤ maxVertices) × Upward (length (now parents)) (now jump) ⌝ }
+    ensures { λ r. ⌜ Steps w y (now (parents .entry)) (now (jump .entry)) (now (parents .exit)) (now (jump .exit)) (r .at) × Moves (now (parents .entry)) (now (jump .entry)) moved (now (parents .exit)) (now (jump .exit)) (r .moved) ⌝ }
+{
+    if y <= w {
+        return Stand { at: w, moved };
+    }
+    let at = w as usize;
+    let next = jump[at];
+    jump[at] = y;
+    if next == Net::ABSENT {
+        let lowest = moving::link(w, y, parents, moved);
+        return Stand {
+            at: y,
+            moved: lowest,
+        };
+    }
+    Stand { at: next, moved }
+}
+
+// Makes the root of u's tree a child of y, and every vertex on the way jump to y. Answers the lowest vertex that moved so far.
 pub fn climb(u: u32, y: u32, parents: &mut [u32], jump: &mut [u32], moved: u32) -> u32
     requires { ⌜ (y < length (now parents)) × (length (now parents) ≤ maxVertices) × Upward (length (now parents)) (now jump) ⌝ }
     ensures { λ r. ⌜ Connects u y (now (parents .entry)) (now (jump .entry)) (now (parents .exit)) (now (jump .exit)) × Moves (now (parents .entry)) (now (jump .entry)) moved (now (parents .exit)) (now (jump .exit)) r ⌝ }
 {
     let mut w = u;
+    let mut lowest = moved;
     while w < y {
-        let at = w as usize;
-        let next = jump[at];
-        jump[at] = y;
-        if next == Net::ABSENT {
-            return moving::link(w, y, parents, moved);
-        }
-        w = next;
+        let next = step(w, y, parents, jump, lowest);
+        w = next.at;
+        lowest = next.moved;
     }
-    moved
+    lowest
 }
 
 // What is left at a place that held u.
@@ -57,33 +81,6 @@ pub fn climb_all(
         i += 1;
     }
     lowest
-}
-
-// Where a climb stands after its first step, y if it has ended, and the lowest vertex that moved so far.
-struct FirstStep {
-    at: u32,
-    moved: u32,
-}
-
-// Makes the first step of a climb from u for y.
-fn step(u: u32, y: u32, parents: &mut [u32], jump: &mut [u32], moved: u32) -> FirstStep
-    requires { ⌜ (y < length (now parents)) × (length (now parents) ≤ maxVertices) × Upward (length (now parents)) (now jump) ⌝ }
-    ensures { λ r. ⌜ Steps u y (now (parents .entry)) (now (jump .entry)) (now (parents .exit)) (now (jump .exit)) (r .at) × Moves (now (parents .entry)) (now (jump .entry)) moved (now (parents .exit)) (now (jump .exit)) (r .moved) ⌝ }
-{
-    if y <= u {
-        return FirstStep { at: u, moved };
-    }
-    let at = u as usize;
-    let next = jump[at];
-    jump[at] = y;
-    if next == Net::ABSENT {
-        let lowest = moving::link(u, y, parents, moved);
-        return FirstStep {
-            at: y,
-            moved: lowest,
-        };
-    }
-    FirstStep { at: next, moved }
 }
 
 // Begins a climb for y from each vertex of y's bucket and weighs it; the bucket then holds where the climbs stand. Answers the lowest

@@ -5,7 +5,7 @@ use lib.ListN.{length}
 use Rattle.game.specs.Game.{absent}
 use Rattle.growth.proofs.NewParents.{untouched-none, untouched-pass, untouched-link}
 use Rattle.growth.proofs.Moves.{moves-none, moves-pass, moves-link}
-use Rattle.growth.proofs.Climbs.{climb-start, climb-jump, climb-root, climb-ended, upward-set}
+use Rattle.growth.proofs.Climbs.{climb-start, climb-jump, climb-root, climb-ended, upward-set, upward-next}
 use borrow.Author.Needs.{needs}
 use Rattle.growth.proofs.climbing.step.Statement.{statement}
 use Rattle.growth.proofs.climbing.step.Tie as tie
@@ -13,7 +13,7 @@ use Rattle.growth.proofs.climbing.step.Tie as tie
 returns : tie.Need-returns
 returns c =
     let (top, few, up) = c .before .before .before .pre in
-    (record { upward = up; untouched = untouched-none _ _; stepped = λ E ws s e. climb-start s top e }, moves-none _ _ _)
+    (record { higher = λ h. absurd (omega (arith, c .if1 .taken)); upward = up; untouched = untouched-none _ _; stepped = λ E ws s e. climb-start s top e }, moves-none _ _ _)
 
 mul-next : tie.Need-mul-next
 mul-next c = search needs
@@ -39,12 +39,13 @@ same-length-2 c = search needs
 returns-2 : tie.Need-returns-2
 returns-2 c =
     let (top, few, up) = c .before .before .before .before .before .before .before .before .before .pre in
-    let low : c .before .before .before .before .before .before .before .before .before .args .u < c .before .before .before .before .before .before .before .before .before .args .y = omega (arith, c .before .before .before .before .before .before .if1 .left) in
+    let low : c .before .before .before .before .before .before .before .before .before .args .w < c .before .before .before .before .before .before .before .before .before .args .y = omega (arith, c .before .before .before .before .before .before .if1 .left) in
     let none = c .before .before .before .before .if2 .taken in
     let real : c .before .before .before .before .before .before .before .before .before .args .y ≢ absent = omega (arith, top, few) in
-    let inside : c .before .before .before .before .before .before .before .before .before .args .u < length (c .before .before .before .before .before .before .before .before .before .args .jump .now) = omega (arith, low, top, up .long) in
+    let inside : c .before .before .before .before .before .before .before .before .before .args .w < length (c .before .before .before .before .before .before .before .before .before .args .jump .now) = omega (arith, low, top, up .long) in
     rw (c .before .before .link .ensures .0, c .before .before .link .ensures .1) (
       record {
+        higher = λ h. h;
         upward = upward-set _ _ low up;
         untouched = untouched-link _ _ inside real;
         stepped = λ E ws s e. climb-ended top (climb-root _ (climb-start s top e) low none);
@@ -58,10 +59,11 @@ same-length-3 c = search needs
 returns-3 : tie.Need-returns-3
 returns-3 c =
     let (top, few, up) = c .before .before .before .before .before .pre in
-    let low : c .before .before .before .before .before .args .u < c .before .before .before .before .before .args .y = omega (arith, c .before .before .if1 .left) in
+    let low : c .before .before .before .before .before .args .w < c .before .before .before .before .before .args .y = omega (arith, c .before .before .if1 .left) in
     let real : c .before .before .before .before .before .args .y ≢ absent = omega (arith, top, few) in
-    let inside : c .before .before .before .before .before .args .u < length (c .before .before .before .before .before .args .jump .now) = omega (arith, low, top, up .long) in (
+    let inside : c .before .before .before .before .before .args .w < length (c .before .before .before .before .before .args .jump .now) = omega (arith, low, top, up .long) in (
       record {
+        higher = λ h. upward-next _ up (omega (arith, low, top)) (c .if2 .left);
         upward = upward-set _ _ low up;
         untouched = untouched-pass _ _ inside real;
         stepped = λ E ws s e. climb-jump _ (climb-start s top e) low (c .if2 .left);
