@@ -1,7 +1,8 @@
 """Draws the map of the crates, docs/crates.svg, from crates.txt: python3 docs/crates.py
 
-A row to each crate, what it stands on above it, with the comment that stands right above it in crates.txt. A line goes from a crate to
-those that stand on it, left out where it goes by way of a crate between them. The crates of the toolchain are not drawn."""
+A row to each crate, what it stands on above it, with the comment that stands right above it in crates.txt, under the heading of its
+group, a line that begins with `##`. A line goes from a crate to those that stand on it, left out where it goes by way of a crate between
+them. The crates of the toolchain are not drawn."""
 
 import html
 import pathlib
@@ -36,6 +37,28 @@ def listed(text):
             raise ValueError(f"crates.txt: a cycle among {sorted(set(needs) - set(order))}")
         order.append(ready[0])
     return order, needs, about
+
+
+def headings(text):
+    """The heading above each crate, None before the first."""
+    above, heading = {}, None
+    for line in text.splitlines():
+        if line.startswith("##"):
+            heading = line.strip("# ")
+        elif not line.startswith("#") and ":" in line:
+            above[line.partition(":")[0].strip()] = heading
+    return above
+
+
+def rows_of(order, heading):
+    """The row of each crate, and the row of each heading, which stands before the first crate of its group."""
+    row, heads, latest = {}, {}, None
+    for name in order:
+        if heading[name] != latest:
+            latest = heading[name]
+            heads[latest] = len(row) + len(heads)
+        row[name] = len(row) + len(heads)
+    return row, heads
 
 
 def reduced(order, needs):
@@ -74,11 +97,14 @@ def drawn(text):
     lane = laned(order, direct)
     names = EDGE + LANE * (max(lane.values()) + 1)
     words = names + 10 * max(map(len, order))
-    point = {name: (EDGE + LANE * lane[name], EDGE + ROW * (place + 1)) for place, name in enumerate(order)}
+    row, heads = rows_of(order, headings(text))
+    point = {name: (EDGE + LANE * lane[name], EDGE + ROW * (row[name] + 1)) for name in order}
     shown = {name: svg.COLOURS[lane[name] % len(svg.COLOURS)] for name in order}
-    height = ROW * (len(order) + 1) + 2 * EDGE
+    height = ROW * (len(order) + len(heads) + 1) + 2 * EDGE
     parts = [svg.element("title", "The crates, each below those that it stands on"), svg.element("rect", width=WIDTH, height=height, fill="white")]
     parts += [svg.element("rect", x=0, y=point[name][1] - ROW // 2, width=WIDTH, height=ROW, fill="#f4f4f4") for name in order[::2]]
+    parts += [svg.text(names, EDGE + ROW * (place + 1) + 9, html.escape(head, quote=False), font_style="italic", font_size=13)
+              for head, place in heads.items()]
     parts += [link(point[other], point[name], shown[other]) for name in order for other in sorted(direct[name], key=order.index)]
     for name in order:
         parts += [svg.dots([point[name]], 6, shown[name]), svg.text(names, point[name][1] + 5, name, font_weight="bold")]

@@ -39,8 +39,8 @@ fn lowest_common(parents: &[u32], one: u32, other: u32) -> u32
     let mut a = one;
     let mut b = other;
     while a != b {
-        let low = moving::lower(a, b);
-        b = moving::higher(a, b);
+        let low = moved::lower(a, b);
+        b = moved::higher(a, b);
         a = parents[low as usize];
     }
     a

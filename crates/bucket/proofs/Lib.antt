@@ -1,6 +1,11 @@
--- Laws by subject: edges of two sources filed together, and what the buckets then hold.
-pub mod LowerEnds
+-- Laws by subject: the ends of edges and their counts, and what the buckets hold of edges from two sources. Nothing here needs to be
+-- believed: it is all proved.
+pub mod Ends
 pub mod Filing
+pub mod LowerEnds
 pub mod Reading
-pub mod Weighed
 pub mod Regrouped
+pub mod Sources
+pub mod Sweep
+pub mod Upper
+pub mod Weighed

@@ -13,10 +13,10 @@ use Rattle.game.specs.Net.{Net, net, netOf, weight, weights}
 use Rattle.game.proofs.Tables.{tabulate-ext}
 use Rattle.game.proofs.Forest.{forest-length}
 use Rattle.game.proofs.Weights.{weights-length}
-use Rattle.likeness.specs.Likeness.{sameNet}
-use Rattle.placing.specs.Ends.{endOf, ending, tallied}
+use Rattle.compare.specs.Likeness.{sameNet}
+use Rattle.bucket.specs.Ends.{endOf, ending, tallied}
 use Rattle.bucket.specs.Filed.{Filed}
-use Rattle.placing.proofs.Ends.{ending-weight}
+use Rattle.bucket.proofs.Ends.{ending-weight}
 use Rattle.bucket.proofs.Reading.{filed-consecutive}
 use Rattle.sorting.proofs.Tallied.{tallied-zeros}
 use Rattle.growth.specs.Work.{Work, workOf, cleared}

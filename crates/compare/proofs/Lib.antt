@@ -1,4 +1,7 @@
 -- Laws of comparing, by subject. Nothing here needs to be believed: it is all proved.
-pub mod Unlike
 pub mod Compared
 pub mod Ready
+pub mod Refused
+pub mod Sameness
+pub mod Told
+pub mod Unlike

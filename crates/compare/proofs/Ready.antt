@@ -12,8 +12,8 @@ use Rattle.game.proofs.Bools.{or-neither}
 use Rattle.refusal.specs.Limits.{maxVertices}
 use Rattle.refusal.specs.Refusal.{firstFault}
 use Rattle.refusal.proofs.First.{length-right}
-use Rattle.likeness.specs.Likeness.{listRefusal}
-use Rattle.likeness.proofs.Refused.{list-passed}
+use Rattle.compare.specs.Likeness.{listRefusal}
+use Rattle.compare.proofs.Refused.{list-passed}
 use Rattle.growth.specs.Work.{Work}
 use Rattle.growth.proofs.Rooms.{good-work}
 use Rattle.compare.specs.Compare.{wrongCompared}

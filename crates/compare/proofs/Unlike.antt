@@ -9,8 +9,8 @@ use Rattle.game.specs.Edge.{Edge}
 use Rattle.game.specs.Net.{Net, netOf}
 use Rattle.refusal.specs.Refusal.{given}
 use Rattle.refusal.proofs.First.{given-true, given-none}
-use Rattle.likeness.specs.Likeness.{sameNet}
-use Rattle.likeness.proofs.Sameness.{same-net, net-same}
+use Rattle.compare.specs.Likeness.{sameNet}
+use Rattle.compare.proofs.Sameness.{same-net, net-same}
 use Rattle.compare.specs.Compare.{unlike}
 
 -- 23 is not given where the edges' net is the net

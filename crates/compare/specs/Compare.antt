@@ -10,7 +10,7 @@ use lib.ListN.{length}
 use Rattle.game.specs.Edge.{Edge}
 use Rattle.game.specs.Net.{Net, netOf}
 use Rattle.refusal.specs.Refusal.{given, wrongLength}
-use Rattle.likeness.specs.Likeness.{sameNet}
+use Rattle.compare.specs.Likeness.{sameNet}
 use Rattle.growth.specs.Work.{Work, badWork}
 
 -- 2, of the comparison tables, with n entries each, and of the work tables, for n vertices and m edges

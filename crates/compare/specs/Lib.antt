@@ -1,3 +1,5 @@
--- A net compared with edges that are said to be its own.
+-- A list that is said to be a net's own: what it is refused for, and its net compared.
 pub mod Compare
+pub mod Likeness
+pub mod OwnSteps
 pub mod Steps

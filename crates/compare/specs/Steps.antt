@@ -7,7 +7,7 @@ use Prim.Native.Nat.{ℕ}
 use lib.ListN.{length}
 use Rattle.game.specs.Edge.{Edge, edges}
 use Rattle.game.specs.Net.{Net, netOf}
-use Rattle.likeness.specs.Likeness.{sameNet}
+use Rattle.compare.specs.Likeness.{sameNet}
 use Rattle.bucket.specs.Filed.{Filed}
 use Rattle.growth.specs.Work.{Work, cleared}
 use Rattle.growth.specs.Lists.{ListFits}

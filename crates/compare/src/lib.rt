@@ -1,6 +1,11 @@
-// Comparing a net with edges that are said to be its own: what the tables lent for it are refused for, the edges' net grown into the
-// comparison tables, and whether that is the net.
+// A net compared with edges that are said to be its own: what the list and the tables lent for it are refused for, the net of the edges
+// grown into the comparison tables, and whether that is the net.
+mod likeness;
+mod own;
+
+pub use likeness::list_refusal;
 use net::Net;
+pub use own::is_own;
 ghost use mathlib.Core.Path.{_≡_};
 ghost use mathlib.Core.Bool.{_||_};
 ghost use Rattle.game.specs.Edge.{edges as edgesOf};

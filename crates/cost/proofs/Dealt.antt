@@ -19,9 +19,9 @@ use Rattle.game.proofs.Weights.{sum-map-append}
 use Rattle.game.proofs.Within.{within-linked}
 use Rattle.game.proofs.Forest.{forest-same}
 use Rattle.game.proofs.Bools.{test-cases}
-use Rattle.trimming.proofs.Lists.{stretch, in-stretch, sum-nought, sum-agree}
+use Rattle.cut.proofs.Lists.{stretch, in-stretch, sum-nought, sum-agree}
 use Rattle.groups.proofs.Sums.{only, total, total-add, total-here}
-use Rattle.meeting.proofs.Blocks.{filtered-in, in-filtered}
+use Rattle.block_count.proofs.Blocks.{filtered-in, in-filtered}
 
 perm-total : {xs ys : List ℕ} (f : ℕ → ℕ) → List·Permᴰ xs ys → total xs f ≡ total ys f
 unfolding sum

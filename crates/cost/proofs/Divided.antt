@@ -9,11 +9,11 @@ use Rattle.game.specs.Table.{tabulate}
 use Rattle.game.specs.Edge.{Edge, lower}
 use Rattle.game.specs.Net.{Net}
 use Rattle.game.proofs.Tables.{tabulate-entry, tabulate-ext}
-use Rattle.trimming.specs.Cut.{cut, top}
-use Rattle.packing.specs.Pack.{blockOf}
-use Rattle.partition.specs.Divide.{divided}
-use Rattle.packing.proofs.BlockLoads.{block-inside}
-use Rattle.meeting.specs.BlockCount.{edgeBlock}
+use Rattle.cut.specs.Cut.{cut, top}
+use Rattle.pack.specs.Pack.{blockOf}
+use Rattle.divide.specs.Divide.{divided}
+use Rattle.pack.proofs.BlockLoads.{block-inside}
+use Rattle.block_count.specs.BlockCount.{edgeBlock}
 
 module _ (net : Net) (B k : ℕ) where
   pub cuts : ℕ → Bool

@@ -10,12 +10,12 @@ use native.Mathlib.Omega.{arith}
 use lib.ListN.{length, getD, set, take, drop, length-set}
 use lib.Seq.{take-suc-set, take-all}
 use Rattle.game.specs.Edge.{Edge, _─_, lower, edges}
-use Rattle.placing.specs.Ends.{endOf}
+use Rattle.bucket.specs.Ends.{endOf}
 use Rattle.game.proofs.Edges.{edges-drop, edges-end, edges-length}
 use Rattle.refusal.specs.Refusal.{fault, firstFault}
 use Rattle.refusal.proofs.First.{first-none, first-last}
 use Rattle.refusal.proofs.Fault.{faultless}
-use Rattle.meeting.specs.BlockCount.{edgeBlock, edgeBlocks}
+use Rattle.block_count.specs.BlockCount.{edgeBlock, edgeBlocks}
 
 -- the first i edges have their blocks; the list is read at `at`
 pub record FillTurn (xs block out : List ℕ) (i at : ℕ) : Type 0 where

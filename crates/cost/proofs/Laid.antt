@@ -24,23 +24,23 @@ use Rattle.refusal.specs.Verdict.{isAccepted, judged}
 use Rattle.refusal.specs.Outcome.{decided}
 use Rattle.refusal.proofs.Fault.{proper-faultless}
 use Rattle.growth.specs.Work.{NetWithWork, withWork, badWork}
-use Rattle.starting.specs.Start.{startRefusal, startOutcome}
-use Rattle.addable.specs.Refused.{addRefusal}
-use Rattle.adding.specs.Add.{grown, addOutcome}
-use Rattle.joinable.specs.Refused.{joinRefusal}
-use Rattle.joining.specs.Join.{joinOutcome}
-use Rattle.joinable.proofs.Accepted.{Joinable}
-use Rattle.addable.proofs.Accepted.{Addable}
+use Rattle.start.specs.Start.{startRefusal, startOutcome}
+use Rattle.add_refusal.specs.Refused.{addRefusal}
+use Rattle.add.specs.Add.{grown, addOutcome}
+use Rattle.join_refusal.specs.Refused.{joinRefusal}
+use Rattle.join.specs.Join.{joinOutcome}
+use Rattle.join_refusal.proofs.Accepted.{Joinable}
+use Rattle.add_refusal.proofs.Accepted.{Addable}
 use Rattle.growth.proofs.Whole.{room}
 use Rattle.forest.proofs.Passes.{start-passes, add-passes, join-passes}
 use Rattle.forest.proofs.Promise.{net-valid, valid-whole}
 use Rattle.forest.proofs.Laws.{grown-net, joined-net}
-use Rattle.partition.specs.Divide.{divided}
-use Rattle.trimming.specs.Steps.{Divisible}
-use Rattle.trimming.proofs.Lists.{stretch, stretch-in, sum-agree}
+use Rattle.divide.specs.Divide.{divided}
+use Rattle.cut.specs.Steps.{Divisible}
+use Rattle.cut.proofs.Lists.{stretch, stretch-in, sum-agree}
 use Rattle.groups.proofs.Sums.{only, total-filtered, total as sumOver}
-use Rattle.partition.proofs.Laws.{block-load}
-use Rattle.meeting.specs.BlockCount.{edgeBlock}
+use Rattle.divide.proofs.Laws.{block-load}
+use Rattle.block_count.specs.BlockCount.{edgeBlock}
 use Rattle.cost.specs.Laid.{edgesOf, Lot, LotOf, Lots, none, more, Laid, after, started, grownLot, laid}
 use Rattle.cost.proofs.Dealt.{together, part, part-proper, dealt-net, dealt-charges, part-weights}
 use Rattle.cost.proofs.Divided.{block-below}

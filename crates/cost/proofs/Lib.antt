@@ -1,7 +1,8 @@
 -- Laws of the figures, by subject. Nothing here needs to be believed: it is all proved.
-pub mod Divided
-pub mod VolumeBound
 pub mod Dealt
-pub mod Laid
+pub mod Divided
 pub mod Filling
+pub mod Laid
 pub mod Summed
+pub mod Sums
+pub mod VolumeBound

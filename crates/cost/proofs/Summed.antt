@@ -9,8 +9,8 @@ use Rattle.game.specs.Table.{tabulate, sum}
 use Rattle.game.specs.Edge.{Edge}
 use Rattle.game.specs.Net.{reach}
 use Rattle.game.proofs.Tables.{tabulate-length, tabulate-entry, tabulate-ext}
-use Rattle.summing.specs.Steps.{cutReach, boundTerm, boundBy, volumeTerm, volumeBy}
-use Rattle.meeting.specs.BlockCount.{blockCount}
+use Rattle.cost.specs.SummingSteps.{cutReach, boundTerm, boundBy, volumeTerm, volumeBy}
+use Rattle.block_count.specs.BlockCount.{blockCount}
 use Rattle.cost.specs.Figures.{isCut, bound, volume}
 
 -- the bound of the tables is the bound

@@ -30,16 +30,16 @@ use Rattle.game.proofs.Links.{link-inv}
 use Rattle.game.proofs.Forest.{forest-length, forest-sound}
 use Rattle.game.proofs.Ancestors.{ancestor-above, edge-ends}
 use Rattle.refusal.specs.Limits.{maxVertices}
-use Rattle.trimming.specs.Cut.{top}
-use Rattle.trimming.proofs.Lists.{stretch, stretch-in, in-stretch, sum-entry-in, sum-nought}
+use Rattle.cut.specs.Cut.{top}
+use Rattle.cut.proofs.Lists.{stretch, stretch-in, in-stretch, sum-entry-in, sum-nought}
 use Rattle.groups.proofs.Sums.{only, total, total-add, total-swap}
 use Rattle.groups.proofs.Groups.{top-or, top-cut, top-of, top-between}
 use Rattle.reach.proofs.Higher.{linked-enters}
-use Rattle.meeting.specs.BlockCount.{blocksAt, different, blockCount}
+use Rattle.block_count.specs.BlockCount.{blocksAt, different, blockCount}
 use Rattle.cost.specs.Figures.{isCut, bound, volume, boundOf, volumeOf}
-use Rattle.meeting.proofs.Blocks.{block-at}
+use Rattle.block_count.proofs.Blocks.{block-at}
 use Rattle.cost.proofs.Divided.{cuts, packed, divided-top, divided-block}
-use Rattle.meeting.proofs.Sums.{table-total, count-total, total-le, total-one, members-count}
+use Rattle.block_count.proofs.Sums.{table-total, count-total, total-le, total-one, members-count}
 
 -- every vertex is under the top of its group
 under-top : (p : List ℕ) (cuts : ℕ → Bool) (x : ℕ) → under p (top p cuts x) x ≡ true

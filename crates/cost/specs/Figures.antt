@@ -14,10 +14,10 @@ use Rattle.game.specs.Table.{tabulate, sum}
 use Rattle.game.specs.Edge.{Edge}
 use Rattle.game.specs.Game.{absent}
 use Rattle.game.specs.Net.{Net, total, reach}
-use Rattle.partition.specs.Divide.{divided}
-use Rattle.meeting.specs.BlockCount.{blockCount}
-use Rattle.sharing.specs.declared.Share.{Share}
-use Rattle.sharing.specs.Share.{evenShare}
+use Rattle.divide.specs.Divide.{divided}
+use Rattle.block_count.specs.BlockCount.{blockCount}
+use Rattle.share.specs.declared.Share.{Share}
+use Rattle.share.specs.Share.{evenShare}
 use Rattle.cost.specs.declared.Totals.{Totals}
 
 -- a cut mark: the top of its group, although it has a parent

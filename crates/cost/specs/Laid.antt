@@ -17,11 +17,11 @@ use Rattle.refusal.specs.Refusal.{odd}
 use Rattle.refusal.specs.Verdict.{isAccepted}
 use Rattle.refusal.specs.Outcome.{Outcome}
 use Rattle.growth.specs.Work.{Work, NetWithWork, withWork, badWork}
-use Rattle.starting.specs.Start.{startOutcome}
-use Rattle.adding.specs.Add.{addOutcome}
-use Rattle.joining.specs.Join.{joinOutcome}
-use Rattle.partition.specs.Divide.{DivisionTables}
-use Rattle.meeting.specs.BlockCount.{edgeBlock}
+use Rattle.start.specs.Start.{startOutcome}
+use Rattle.add.specs.Add.{addOutcome}
+use Rattle.join.specs.Join.{joinOutcome}
+use Rattle.divide.specs.Divide.{DivisionTables}
+use Rattle.block_count.specs.BlockCount.{edgeBlock}
 
 -- the edges of block j
 unfoldable pub edgesOf : List ℕ → List Edge → ℕ → List Edge

@@ -1,5 +1,6 @@
 -- What a division costs, and the blocks as nets of their own.
-pub mod Figures
 pub mod Answer
+pub mod Figures
 pub mod Laid
 pub mod Steps
+pub mod SummingSteps

@@ -6,8 +6,8 @@ use Prim.Native.Nat.{ℕ, _≤_, _<_}
 use lib.ListN.{length}
 use Rattle.game.specs.Table.{sum}
 use Rattle.refusal.specs.Limits.{maxVertices, maxTotal}
-use Rattle.summing.specs.Steps.{boundBy, volumeBy}
-use Rattle.sharing.specs.Share.{evenShare}
+use Rattle.cost.specs.SummingSteps.{boundBy, volumeBy}
+use Rattle.share.specs.Share.{evenShare}
 use Rattle.cost.specs.declared.Totals.{Totals}
 use Rattle.cost.specs.Figures.{totals}
 

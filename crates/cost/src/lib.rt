@@ -1,12 +1,14 @@
 // What a division costs: the block of each edge, the bound and the volume of communication between the blocks, and beside them the even
 // share of a block.
-use sharing::Share;
+mod summing;
+
+use share::Share;
 use table::wide;
 ghost use mathlib.Core.Path.{_≡_};
 ghost use lib.ListN.{length};
 ghost use Rattle.game.specs.Edge.{edges as edgesOf};
 ghost use Rattle.refusal.specs.Refusal.{firstFault};
-ghost use Rattle.meeting.specs.BlockCount.{edgeBlocks};
+ghost use Rattle.block_count.specs.BlockCount.{edgeBlocks};
 ghost use Rattle.cost.specs.Steps.{ReportTables, summed};
 
 // What a report answers of a division: the bound and the volume of communication, and the even share of a block.
@@ -35,7 +37,7 @@ pub fn sum_up(
 {
     let bound = summing::bound(parents, top, reach);
     let volume = summing::volume(block_count);
-    let share = sharing::even_share(block_loads);
+    let share = share::even_share(block_loads);
     Totals {
         bound,
         volume,
@@ -52,7 +54,7 @@ pub fn write_edge_blocks(edges: &[u32], block: &[u32], edge_blocks: &mut [u32])
     let mut i = 0;
     let mut at = 0;
     while i < edge_blocks.len() {
-        edge_blocks[i] = block[wide(placing::end_of(false, edges[at], edges[at + 1]))];
+        edge_blocks[i] = block[wide(bucket::end_of(false, edges[at], edges[at + 1]))];
         i += 1;
         at += 2;
     }

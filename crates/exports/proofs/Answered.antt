@@ -4,7 +4,7 @@ use mathlib.Core.Path.{_≡_, _∙_, ap, ap₂, refl}
 use Prim.Native.Nat.{ℕ}
 use Rattle.refusal.specs.Verdict.{Verdict, number}
 use Rattle.refusal.specs.Outcome.{Outcome, Done, ended}
-use Rattle.handing.specs.Returned.{returned, handed, filled, told, handedCells}
+use Rattle.cells.specs.Returned.{returned, handed, filled, told, handedCells}
 
 pub handed-as : {A : Type 0} {k : ℕ} {v : Verdict (Unit {0})} {t : A} {o : Done A} → k ≡ number v → ended v t ≡ o → returned k t ≡ handed o
 unfolding handed

@@ -2,27 +2,27 @@
 // its answer as a number, 0 if it was accepted. A table passes as a pointer and a length. Nothing is checked at this boundary, so no
 // function here asks anything of its caller that its types do not say: tables are readable or writable over their length, and one
 // that is written overlaps no other.
-use handing::hand_place;
-use handing::hand_rank;
-use handing::hand_separator;
-use handing::hand_totals;
+use cells::hand_place;
+use cells::hand_rank;
+use cells::hand_separator;
+use cells::hand_totals;
 ghost use mathlib.Core.Path.{_≡_};
 ghost use Rattle.game.specs.Net.{net};
 ghost use Rattle.growth.specs.Work.{withWork, workOf};
-ghost use Rattle.starting.specs.Start.{startOutcome};
-ghost use Rattle.adding.specs.Add.{addOutcome};
-ghost use Rattle.joining.specs.Join.{joinOutcome};
-ghost use Rattle.saving.specs.Save.{saveOutcome};
-ghost use Rattle.reading.specs.Read.{readOutcome};
-ghost use Rattle.partition.specs.Divide.{divisionOf, divideOutcome};
+ghost use Rattle.start.specs.Start.{startOutcome};
+ghost use Rattle.add.specs.Add.{addOutcome};
+ghost use Rattle.join.specs.Join.{joinOutcome};
+ghost use Rattle.save.specs.Save.{saveOutcome};
+ghost use Rattle.read.specs.Read.{readOutcome};
+ghost use Rattle.divide.specs.Divide.{divisionOf, divideOutcome};
 ghost use Rattle.relabel.specs.Relabel.{relabelTables, relabelOutcome};
-ghost use Rattle.indexing.specs.Index.{index};
-ghost use Rattle.indexing.specs.Build.{indexOutcome};
-ghost use Rattle.querying.specs.Query.{place, queryPlace};
-ghost use Rattle.writing.specs.Written.{written};
+ghost use Rattle.index.specs.Index.{index};
+ghost use Rattle.index.specs.Build.{indexOutcome};
+ghost use Rattle.query.specs.Query.{place, queryPlace};
+ghost use Rattle.report_write.specs.Written.{written};
 ghost use Rattle.report.specs.Report.{lent, reportOutcome};
-ghost use Rattle.separating.specs.Separate.{separateTables, separateOutcome};
-ghost use Rattle.handing.specs.Returned.{returned, handed, filled, cells, separatorCells, handedTotals, handedRank, handedSeparator};
+ghost use Rattle.separate.specs.Separate.{separateTables, separateOutcome};
+ghost use Rattle.cells.specs.Returned.{returned, handed, filled, cells, separatorCells, handedTotals, handedRank, handedSeparator};
 
 #[no_mangle]
 pub extern "C" fn niqastul_relabel(
@@ -126,7 +126,7 @@ pub extern "C" fn niqastul_divide(
         returned r (divisionOf (now (carried .exit)) (now (top .exit)) (now (block .exit)) (now («block_loads» .exit)))
         ≡ handed (divideOutcome (net (now (parents .entry)) (now (weights .entry))) limit blocks (divisionOf (now (carried .entry)) (now (top .entry)) (now (block .entry)) (now («block_loads» .entry)))) ⌝ }
 {
-    refusal::code(partition::divide(
+    refusal::code(divide::divide(
         parents,
         weights,
         limit,
@@ -209,7 +209,7 @@ pub extern "C" fn niqastul_index(
         returned r (index (now (starts .exit)) (now (neighbours .exit)))
         ≡ handed (indexOutcome (index (now (starts .entry)) (now (neighbours .entry))) (now («old_edges» .entry)) (now (added .entry))) ⌝ }
 {
-    refusal::code(indexing::index(old_edges, added, starts, neighbours))
+    refusal::code(index::index(old_edges, added, starts, neighbours))
 }
 
 // The part of the index that a query hands back is told by its place and its length.
@@ -223,7 +223,7 @@ pub extern "C" fn niqastul_query(
 ) -> u32
     ensures { λ r. ⌜ place r (now (first .exit)) (now (count .exit)) ≡ queryPlace (index (now (starts .entry)) (now (neighbours .entry))) rank ⌝ }
 {
-    let part = querying::locate(starts, neighbours, rank);
+    let part = query::locate(starts, neighbours, rank);
     hand_place(part, first, count)
 }
 
@@ -252,7 +252,7 @@ pub extern "C" fn niqastul_separate(
         (separateOutcome (net (now (parents .entry)) (now (weights .entry))) one other (now (edges .entry))
         (separateTables (now (separator .entry)) (net (now («compared_parents» .entry)) (now («compared_weights» .entry))) (workOf (now (ends .entry)) (now (jump .entry)) (now (lower .entry))))) ⌝ }
 {
-    let answer = separating::separate(
+    let answer = separate::separate(
         parents,
         weights,
         one,

@@ -14,8 +14,8 @@ use Rattle.game.specs.Edge.{edges}
 use Rattle.game.proofs.Bools.{or-neither}
 use Rattle.refusal.specs.Refusal.{given, first, firstFault}
 use Rattle.refusal.proofs.First.{first-none, first-pass, first-end, given-none, length-right}
-use Rattle.permutation.specs.Order.{badOrder}
-use Rattle.limits.specs.DivisionLimits.{badLimits}
+use Rattle.order.specs.Order.{badOrder}
+use Rattle.refusal.specs.DivisionLimits.{badLimits}
 use Rattle.words.proofs.Bytes.{words-length}
 use Rattle.files.specs.Files.{Files, vertexCount, edgeCount, order, edgeList, limit, blocks, vertexCapacity, edgeCapacity}
 use Rattle.files.specs.Refused.{tooMany, partRecord, notRecords, fileRefusal}

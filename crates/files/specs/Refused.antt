@@ -11,8 +11,8 @@ use lib.Dec.{eqb, ltb}
 use lib.ListN.{length}
 use Rattle.game.specs.Edge.{edges}
 use Rattle.refusal.specs.Refusal.{given, first, wrongLength, firstFault}
-use Rattle.permutation.specs.Order.{badOrder}
-use Rattle.limits.specs.DivisionLimits.{badLimits}
+use Rattle.order.specs.Order.{badOrder}
+use Rattle.refusal.specs.DivisionLimits.{badLimits}
 use Rattle.files.specs.Files.{Files, vertexCount, edgeCount, order, edgeList, limit, blocks, vertexCapacity, edgeCapacity}
 
 -- 2: "more of either"

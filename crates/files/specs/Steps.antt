@@ -7,8 +7,8 @@ use lib.Dec.{eqb}
 use lib.ListN.{length, take}
 use Rattle.game.specs.Edge.{edges}
 use Rattle.refusal.specs.Refusal.{given, first, firstFault}
-use Rattle.permutation.specs.Order.{badOrder}
-use Rattle.limits.specs.DivisionLimits.{badLimits}
+use Rattle.order.specs.Order.{badOrder}
+use Rattle.refusal.specs.DivisionLimits.{badLimits}
 use Rattle.files.specs.Files.{Files, vertexCount, order, edgeList, limit, blocks, edgeCapacity}
 use Rattle.files.specs.Refused.{tooMany, notRecords, fileRefusal}
 

@@ -4,7 +4,7 @@ ghost use mathlib.Core.List.{[], _∷_};
 ghost use Prim.Native.Nat.{_*_, _/_, _≤_};
 ghost use lib.ListN.{length};
 ghost use Rattle.refusal.specs.Refusal.{first, given};
-ghost use Rattle.limits.specs.DivisionLimits.{badLimits};
+ghost use Rattle.refusal.specs.DivisionLimits.{badLimits};
 ghost use Rattle.words.specs.Word.{words};
 ghost use Rattle.files.specs.Files.{files as filesOf, vertexCapacity};
 ghost use Rattle.files.specs.Steps.{sizeRefusal, contentRefusal, Sized, Loaded, Decided, endCapacity};
@@ -70,7 +70,7 @@ fn first_of(one: u32, other: u32) -> u32
 fn limit_refusal(limit: u32, blocks: u32) -> u32
     ensures { λ r. ⌜ r ≡ given (badLimits limit blocks) 8 ⌝ }
 {
-    if limits::bad_limits(limit, blocks) {
+    if refusal::bad_limits(limit, blocks) {
         return 8;
     }
     0
@@ -81,7 +81,7 @@ fn content_refusal(order: &[u32], edges: &[u32], limit: u32, blocks: u32) -> u32
     requires { ⌜ length (now order) ≤ vertexCapacity ⌝ }
     ensures { λ r. ⌜ r ≡ contentRefusal (now (order .entry)) (now (edges .entry)) limit blocks ⌝ }
 {
-    if permutation::bad_order(order) {
+    if order::bad_order(order) {
         return 3;
     }
     let limits = limit_refusal(limit, blocks);

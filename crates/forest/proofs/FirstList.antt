@@ -15,12 +15,12 @@ use Rattle.refusal.specs.Refusal.{firstFault}
 use Rattle.refusal.specs.Verdict.{Verdict}
 use Rattle.refusal.specs.Outcome.{Outcome, ended, decided}
 use Rattle.refusal.proofs.First.{even-list, unless-accepted}
-use Rattle.moving.specs.declared.Moved.{Moved}
+use Rattle.moved.specs.declared.Moved.{Moved}
 use Rattle.growth.specs.Lists.{ListFits}
 use Rattle.growth.specs.Work.{Work, workOf, withWork, cleared}
-use Rattle.starting.specs.Start.{startRefusal, startOutcome}
-use Rattle.adding.specs.Add.{addOutcome}
-use Rattle.addable.proofs.Accepted.{Addable}
+use Rattle.start.specs.Start.{startRefusal, startOutcome}
+use Rattle.add.specs.Add.{addOutcome}
+use Rattle.add_refusal.proofs.Accepted.{Addable}
 use Rattle.forest.proofs.Passes.{start-passes, add-passes}
 use Rattle.forest.proofs.Promise.{valid-whole, net-valid}
 use Rattle.forest.proofs.Laws.{grown-net}

@@ -15,18 +15,18 @@ use Rattle.refusal.specs.Verdict.{accepted}
 use Rattle.refusal.specs.Outcome.{decided}
 use Rattle.refusal.proofs.First.{unless-accepted}
 use Rattle.refusal.proofs.Ends.{accepted-none, accepted-values}
-use Rattle.moving.specs.declared.Moved.{Moved}
-use Rattle.moving.specs.Moved.{movedFrom, moved}
-use Rattle.moving.specs.Followed.{Followed}
-use Rattle.moving.proofs.Followed.{followed}
+use Rattle.moved.specs.declared.Moved.{Moved}
+use Rattle.moved.specs.Moved.{movedFrom, moved}
+use Rattle.moved.specs.Followed.{Followed}
+use Rattle.moved.proofs.Followed.{followed}
 use Rattle.growth.specs.Work.{NetWithWork}
 use Rattle.growth.proofs.Whole.{Whole}
-use Rattle.addable.specs.Refused.{addRefusal}
-use Rattle.adding.specs.Add.{grown, addOutcome}
-use Rattle.addable.proofs.Accepted.{addable}
-use Rattle.joinable.specs.Refused.{joinRefusal}
-use Rattle.joining.specs.Join.{joined, joinOutcome}
-use Rattle.joinable.proofs.Accepted.{joinable}
+use Rattle.add_refusal.specs.Refused.{addRefusal}
+use Rattle.add.specs.Add.{grown, addOutcome}
+use Rattle.add_refusal.proofs.Accepted.{addable}
+use Rattle.join_refusal.specs.Refused.{joinRefusal}
+use Rattle.join.specs.Join.{joined, joinOutcome}
+use Rattle.join_refusal.proofs.Accepted.{joinable}
 
 -- of a net that is whole, with further edges
 forest-followed : {of : Net} → Whole of → (es : List Edge) → let p : List ℕ = of .parents in let q : List ℕ = forest (length p) (links p ++ es) in Followed (movedFrom 0 p q) p q

@@ -16,8 +16,8 @@ use Rattle.game.proofs.Forest.{forest-length, join-law-left, join-law}
 use Rattle.game.specs.Graph.{Proper}
 use Rattle.game.proofs.Weights.{weight-append, weights-length, weights-entry}
 use Rattle.sorting.proofs.Tallied.{zip-length, zip-entry}
-use Rattle.adding.specs.Add.{grown}
-use Rattle.joining.specs.Join.{joined}
+use Rattle.add.specs.Add.{grown}
+use Rattle.join.specs.Join.{joined}
 
 -- weights add up
 pub weights-append : (n : ℕ) (es fs : List Edge) → zipWith _+_ (weights n es) (weights n fs) ≡ weights n (es ++ fs)

@@ -16,12 +16,12 @@ use Rattle.refusal.specs.Refusal.{badCount}
 use Rattle.refusal.proofs.First.{pass, first-pass, first-end, right-length}
 use Rattle.net.specs.Damage.{damaged, damagedBy}
 use Rattle.growth.specs.Work.{Work, NetWithWork, badWork}
-use Rattle.starting.specs.Start.{startRefusal}
-use Rattle.addable.specs.Refused.{addRefusal}
-use Rattle.joinable.specs.Refused.{joinRefusal}
-use Rattle.joinable.proofs.Accepted.{Joinable}
-use Rattle.addable.proofs.Accepted.{Addable}
-use Rattle.starting.proofs.Accepted.{Startable}
+use Rattle.start.specs.Start.{startRefusal}
+use Rattle.add_refusal.specs.Refused.{addRefusal}
+use Rattle.join_refusal.specs.Refused.{joinRefusal}
+use Rattle.join_refusal.proofs.Accepted.{Joinable}
+use Rattle.add_refusal.proofs.Accepted.{Addable}
+use Rattle.start.proofs.Accepted.{Startable}
 use Rattle.growth.proofs.Whole.{Whole, Room}
 
 pub count-right : (n : ℕ) → 0 < n → n ≤ maxVertices → badCount n ≡ false

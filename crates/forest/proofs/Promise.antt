@@ -25,18 +25,18 @@ use Rattle.refusal.proofs.Ends.{accepted-none}
 use Rattle.refusal.proofs.Never.{end-not, other-not, false-not, fault-not, verdict-not}
 use Rattle.refusal.proofs.Fault.{faultless-proper}
 use Rattle.net.specs.Damage.{damaged}
-use Rattle.moving.specs.declared.Moved.{Moved}
+use Rattle.moved.specs.declared.Moved.{Moved}
 use Rattle.sorting.proofs.Tallied.{zip-length}
 use Rattle.growth.specs.Work.{NetWithWork}
-use Rattle.starting.specs.Start.{startRefusal, startOutcome}
-use Rattle.addable.specs.Refused.{addRefusal}
-use Rattle.adding.specs.Add.{grown, addOutcome}
-use Rattle.joinable.specs.Refused.{joinRefusal}
-use Rattle.joining.specs.Join.{joined, joinOutcome}
+use Rattle.start.specs.Start.{startRefusal, startOutcome}
+use Rattle.add_refusal.specs.Refused.{addRefusal}
+use Rattle.add.specs.Add.{grown, addOutcome}
+use Rattle.join_refusal.specs.Refused.{joinRefusal}
+use Rattle.join.specs.Join.{joined, joinOutcome}
 use Rattle.forest.specs.Promise.{Valid}
-use Rattle.joinable.proofs.Accepted.{joinable}
-use Rattle.addable.proofs.Accepted.{addable}
-use Rattle.starting.proofs.Accepted.{startable}
+use Rattle.join_refusal.proofs.Accepted.{joinable}
+use Rattle.add_refusal.proofs.Accepted.{addable}
+use Rattle.start.proofs.Accepted.{startable}
 use Rattle.growth.proofs.Whole.{Whole}
 use Rattle.forest.proofs.Passes.{whole-undamaged}
 

@@ -15,8 +15,8 @@ use Rattle.game.proofs.Sound.{Sound}
 use Rattle.game.proofs.Tables.{tabulate-unique}
 use Rattle.game.proofs.Bools.{test-cases}
 use Rattle.game.proofs.Paths.{parent-higher}
-use Rattle.trimming.specs.Cut.{top}
-use Rattle.trimming.specs.Steps.{Hanging, Tops, holder}
+use Rattle.cut.specs.Cut.{top}
+use Rattle.cut.specs.Steps.{Hanging, Tops, holder}
 use Rattle.groups.proofs.Ranks.{holder-up, holder-cut, holder-root}
 use Rattle.groups.proofs.Groups.{top-root, top-cut, top-up}
 

@@ -7,8 +7,8 @@ use native.Mathlib.Omega.{arith}
 use lib.ListN.{length}
 use Rattle.game.specs.Game.{absent}
 use Rattle.game.proofs.Sound.{Sound, sound-true}
-use Rattle.trimming.specs.Cut.{cut}
-use Rattle.trimming.specs.Steps.{Divisible, Cuts, Hanging, Tops, Grouped}
+use Rattle.cut.specs.Cut.{cut}
+use Rattle.cut.specs.Steps.{Divisible, Cuts, Hanging, Tops, Grouped}
 use Rattle.groups.proofs.Climbing.{hanging-up, climbed-tops}
 
 module _ {p w : List ℕ} {B : ℕ} (d : Divisible p w B) where

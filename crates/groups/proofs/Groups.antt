@@ -17,10 +17,10 @@ use Rattle.game.specs.Tree.{ancestors}
 use Rattle.game.proofs.Sound.{Sound}
 use Rattle.game.proofs.Bools.{test-cases}
 use Rattle.game.proofs.Paths.{parent-higher, ancestors-up, ancestors-none}
-use Rattle.trimming.specs.Cut.{children, carries, climbTo, top, isTop, groupWeight}
-use Rattle.trimming.proofs.Lists.{stretch, stretch-in, sum-agree, sum-nought}
+use Rattle.cut.specs.Cut.{children, carries, climbTo, top, isTop, groupWeight}
+use Rattle.cut.proofs.Lists.{stretch, stretch-in, sum-agree, sum-nought}
 use Rattle.groups.proofs.Sums.{only, total, total-add, total-filtered, total-swap, total-here, total-elsewhere, total-table}
-use Rattle.trimming.proofs.Carried.{entry, Carrying, uncutUnder}
+use Rattle.cut.proofs.Carried.{entry, Carrying, uncutUnder}
 
 -- the top of x is x or an ancestor of x
 pub top-or : (p : List ℕ) (cuts : ℕ → Bool) (x : ℕ) → (top p cuts x ≡ x) ⊎ List·Memᴰ (top p cuts x) (ancestors p x)

@@ -20,13 +20,13 @@ use Rattle.game.proofs.Tables.{member-in, in-member, sum-drop, sum-zeros, sum-d
 use Rattle.game.proofs.Bools.{test-cases}
 use Rattle.game.proofs.Lists.{filtered-in, in-filtered, filtered-take, filtered-leave, rising-ext}
 use Rattle.refusal.specs.Limits.{maxTotal}
-use Rattle.trimming.specs.Cut.{childrenBelow, children, carries, trim, kept, carried, cut}
-use Rattle.trimming.specs.Steps.{Divisible, Chain, end, node, Falling, none, less, hanging, Loaded, Children, Lightened, holder, Cuts}
-use Rattle.trimming.proofs.Lists.{stretch, sum-agree, sum-within}
-use Rattle.trimming.proofs.Trimming.{carries-agree, trim-agree}
-use Rattle.trimming.proofs.Carried.{entry, below-in, in-below, below-rising, children-in, in-children, children-rising, child-lower, kept-in, kept-step, cut-child, carried-size, carried-fits}
-use Rattle.trimming.proofs.Chains.{chain-agree, chain-set}
-use Rattle.trimming.proofs.Turns.{released-hung}
+use Rattle.cut.specs.Cut.{childrenBelow, children, carries, trim, kept, carried, cut}
+use Rattle.cut.specs.Steps.{Divisible, Chain, end, node, Falling, none, less, hanging, Loaded, Children, Lightened, holder, Cuts}
+use Rattle.cut.proofs.Lists.{stretch, sum-agree, sum-within}
+use Rattle.cut.proofs.Trimming.{carries-agree, trim-agree}
+use Rattle.cut.proofs.Carried.{entry, below-in, in-below, below-rising, children-in, in-children, children-rising, child-lower, kept-in, kept-step, cut-child, carried-size, carried-fits}
+use Rattle.cut.proofs.Chains.{chain-agree, chain-set}
+use Rattle.cut.proofs.Turns.{released-hung}
 use Rattle.groups.proofs.Sums.{only, total, total-filtered, total-grown}
 
 -- the ranks below m, the highest first

@@ -15,7 +15,7 @@ use borrow.Author.Tests.{eq-eqb, ne-eqb}
 use Rattle.game.specs.Table.{tabulateFrom, sum, filtered}
 use Rattle.game.proofs.Bools.{test-cases}
 use Rattle.game.proofs.Lists.{filtered-take, filtered-leave}
-use Rattle.trimming.proofs.Lists.{stretch, stretch-in, sum-nought}
+use Rattle.cut.proofs.Lists.{stretch, stretch-in, sum-nought}
 
 -- v if the test holds, else 0
 abbrev pub only : Bool → ℕ → ℕ

@@ -3,9 +3,9 @@ use crate::classes::CLASSES;
 use crate::classes::class_of;
 use crate::classes::file;
 use crate::classes::floor_of;
+use cut::trim;
 use net::Net;
 use table::wide;
-use trimming::trim;
 ghost use mathlib.Core.Path.{_≡_};
 ghost use mathlib.Core.Bool.{cond};
 ghost use Prim.Native.Nat.{_<_};
@@ -13,7 +13,7 @@ ghost use lib.Dec.{eqb};
 ghost use lib.ListN.{length, replicate};
 ghost use Rattle.game.specs.Game.{absent};
 ghost use Rattle.game.specs.Net.{net};
-ghost use Rattle.trimming.specs.Steps.{Divisible, Loaded, Candidates, Trimmed, Listed, Children, Unfiled, Lightened, Cuts};
+ghost use Rattle.cut.specs.Steps.{Divisible, Loaded, Candidates, Trimmed, Listed, Children, Unfiled, Lightened, Cuts};
 
 // A list of up to so many children is scanned as a whole: to file them by class would take longer.
 const SHORT: usize = 32;

@@ -4,7 +4,7 @@ use net::Net;
 use table::wide;
 ghost use mathlib.Core.Path.{_≡_};
 ghost use lib.ListN.{length};
-ghost use Rattle.trimming.specs.Steps.{Divisible, Hanging, Tops, Cuts, Grouped};
+ghost use Rattle.cut.specs.Steps.{Divisible, Hanging, Tops, Cuts, Grouped};
 
 // Each vertex takes the top of what it hangs on, going down the ranks.
 fn find_tops(link: &mut [u32])

@@ -10,8 +10,8 @@ use lib.ListN.{length, getD, set, length-set}
 use lib.Seq.{getD-set-same, getD-set-other}
 use Rattle.game.specs.Game.{absent}
 use Rattle.game.proofs.Sound.{getD-default}
-use Rattle.moving.specs.Steps.{Differ, movedWith}
-use Rattle.moving.proofs.Linked.{moved-same, moved-other}
+use Rattle.moved.specs.Steps.{Differ, movedWith}
+use Rattle.moved.proofs.Linked.{moved-same, moved-other}
 use Rattle.growth.specs.Moves.{Tracks, Moves}
 
 pub moves-none : (p jump : List ℕ) (m : ℕ) → Moves p jump m p jump m

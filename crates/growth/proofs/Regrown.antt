@@ -9,7 +9,7 @@ use Rattle.game.specs.Edge.{Edge}
 use Rattle.game.specs.Game.{forest}
 use Rattle.game.specs.Graph.{Proper}
 use Rattle.refusal.specs.Limits.{maxVertices}
-use Rattle.placing.specs.Ends.{tallied}
+use Rattle.bucket.specs.Ends.{tallied}
 use Rattle.bucket.specs.Filed.{Filed}
 use Rattle.bucket.proofs.Reading.{filed-consecutive}
 use Rattle.growth.specs.Growth.{LinksIn, Grown, Growable, Regrows}

@@ -15,7 +15,7 @@ use borrow.Author.Tests.{eq-eqb, ne-eqb}
 use Rattle.game.proofs.Tables.{count-append}
 use Rattle.game.specs.Table.{count, one-if}
 use Rattle.game.specs.Edge.{Edge}
-use Rattle.placing.specs.Ends.{endOf, tallied}
+use Rattle.bucket.specs.Ends.{endOf, tallied}
 use Rattle.sorting.specs.Sorted.{begin}
 use Rattle.bucket.specs.Filed.{Filed}
 use Rattle.sorting.proofs.Counts.{count-le}

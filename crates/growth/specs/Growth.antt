@@ -17,7 +17,7 @@ use Rattle.game.specs.Tree.{links}
 use Rattle.game.proofs.Conn.{Conn}
 use Rattle.game.specs.Graph.{Linked, Proper}
 use Rattle.growth.specs.Work.{workOf, cleared}
-use Rattle.placing.specs.Ends.{tallied}
+use Rattle.bucket.specs.Ends.{tallied}
 use Rattle.sorting.specs.Sorted.{begin}
 use Rattle.bucket.specs.Filed.{Consecutive, Filed}
 

@@ -7,7 +7,7 @@ use mathlib.Core.List.{List}
 use Prim.Native.Nat.{ℕ}
 use lib.ListN.{length, getD}
 use Rattle.game.specs.Game.{absent}
-use Rattle.moving.specs.Steps.{Differ}
+use Rattle.moved.specs.Steps.{Differ}
 
 -- m is the lowest vertex that moved since the parents were `was`; vertices without a jump have not
 pub record Tracks (was p jump : List ℕ) (m : ℕ) : Type 0 where

@@ -29,7 +29,7 @@ fn step(w: u32, y: u32, parents: &mut [u32], jump: &mut [u32], moved: u32) -> St
     let next = jump[at];
     jump[at] = y;
     if next == Net::ABSENT {
-        let lowest = moving::link(w, y, parents, moved);
+        let lowest = moved::link(w, y, parents, moved);
         return Stand {
             at: y,
             moved: lowest,

@@ -8,7 +8,7 @@ ghost use Prim.Native.Nat.{_<_, _≤_};
 ghost use lib.ListN.{length, take, replicate};
 ghost use Rattle.game.specs.Game.{absent};
 ghost use Rattle.refusal.specs.Limits.{maxVertices};
-ghost use Rattle.moving.specs.Steps.{Differ};
+ghost use Rattle.moved.specs.Steps.{Differ};
 ghost use Rattle.growth.specs.Moves.{Moves};
 ghost use Rattle.growth.specs.Work.{workOf, cleared};
 ghost use Rattle.growth.specs.Growth.{Upward, Light, Gathers, Blank, Raises, Growable, Grows, GrowsKept, Regrows};

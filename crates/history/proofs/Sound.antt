@@ -11,9 +11,9 @@ use Rattle.growth.specs.Work.{withWork}
 use Rattle.forest.specs.Promise.{Valid}
 use Rattle.forest.proofs.Promise.{start-valid, add-valid, join-valid, add-not-30, join-not-30}
 use Rattle.linkfile.proofs.RoundTrip.{read-valid, save-not-30}
-use Rattle.partition.proofs.Division.{divide-not-30}
+use Rattle.divide.proofs.Division.{divide-not-30}
 use Rattle.report.proofs.Own.{report-not-30}
-use Rattle.separating.proofs.Own.{separate-not-30}
+use Rattle.separate.proofs.Own.{separate-not-30}
 use Rattle.history.specs.World.{World, Call, start, add, join, save, read, relabel, divide, report, index, query, separate, update, step, stepped}
 use Rattle.history.specs.Sound.{written, Never30}
 use Rattle.history.proofs.Update.{update-here}

@@ -23,28 +23,28 @@ use Rattle.refusal.specs.Outcome.{decided}
 use Rattle.refusal.proofs.First.{unless-part}
 use Rattle.refusal.proofs.Fault.{faultless-proper}
 use Rattle.net.specs.Damage.{damaged}
-use Rattle.moving.specs.Moved.{moved}
+use Rattle.moved.specs.Moved.{moved}
 use Rattle.growth.specs.Work.{Work, NetWithWork, withWork, cleared}
-use Rattle.starting.specs.Start.{startRefusal, startOutcome}
-use Rattle.addable.specs.Refused.{addRefusal}
-use Rattle.adding.specs.Add.{grown, addOutcome}
-use Rattle.joinable.specs.Refused.{joinRefusal}
-use Rattle.joining.specs.Join.{joined, joinOutcome}
-use Rattle.joinable.proofs.Accepted.{joinable}
-use Rattle.addable.proofs.Accepted.{addable}
-use Rattle.starting.proofs.Accepted.{startable}
+use Rattle.start.specs.Start.{startRefusal, startOutcome}
+use Rattle.add_refusal.specs.Refused.{addRefusal}
+use Rattle.add.specs.Add.{grown, addOutcome}
+use Rattle.join_refusal.specs.Refused.{joinRefusal}
+use Rattle.join.specs.Join.{joined, joinOutcome}
+use Rattle.join_refusal.proofs.Accepted.{joinable}
+use Rattle.add_refusal.proofs.Accepted.{addable}
+use Rattle.start.proofs.Accepted.{startable}
 use Rattle.forest.proofs.Laws.{grown-net, joined-net}
 use Rattle.records.specs.LinkFile.{linkFile, fileNet}
-use Rattle.saving.specs.Save.{saveRefusal, saveOutcome}
-use Rattle.saving.proofs.Accepted.{save-accepted}
-use Rattle.reading.specs.Read.{readRefusal, readOutcome}
+use Rattle.save.specs.Save.{saveRefusal, saveOutcome}
+use Rattle.save.proofs.Accepted.{save-accepted}
+use Rattle.read.specs.Read.{readRefusal, readOutcome}
 use Rattle.linkfile.proofs.RoundTrip.{file-net, undamaged-parents, undamaged-weights}
 use Rattle.relabel.specs.Relabel.{relabelOutcome}
-use Rattle.indexing.specs.Build.{indexOutcome}
-use Rattle.querying.specs.Query.{queryOutcome}
-use Rattle.partition.specs.Divide.{divideOutcome}
+use Rattle.index.specs.Build.{indexOutcome}
+use Rattle.query.specs.Query.{queryOutcome}
+use Rattle.divide.specs.Divide.{divideOutcome}
 use Rattle.report.specs.Report.{reportOutcome}
-use Rattle.separating.specs.Separate.{separateOutcome}
+use Rattle.separate.specs.Separate.{separateOutcome}
 use Rattle.history.specs.World.{World, Call, start, add, join, save, read, relabel, divide, report, index, query, separate, update, withNet, withFile, step, stepped}
 use Rattle.history.specs.Book.{NetRecord, FileRecord, Book, Entry, entry, enter, note, behind, savedRecord, loadedRecord, started, added, joined as entered, saved, loaded, passed}
 use Rattle.history.proofs.Update.{update-both, update-same}

@@ -9,11 +9,11 @@ use Rattle.game.specs.Net.{Net, netOf}
 use Rattle.game.proofs.Order.{net-order}
 use Rattle.linkfile.proofs.RoundTrip.{link-file-length}
 use Rattle.report.specs.Report.{Lent, reportOutcome}
-use Rattle.separating.specs.Separate.{SeparateTables, separateOutcome}
+use Rattle.separate.specs.Separate.{SeparateTables, separateOutcome}
 use Rattle.cost.proofs.VolumeBound.{volume-bound}
 use Rattle.report.proofs.Own.{own-not-23, accepted-totals}
-use Rattle.separating.proofs.Own.{own-not-23 as separate-not-23}
-use Rattle.separating.proofs.Separation.{separate-separates}
+use Rattle.separate.proofs.Own.{own-not-23 as separate-not-23}
+use Rattle.separate.proofs.Separation.{separate-separates}
 use Rattle.history.specs.World.{World, Call}
 use Rattle.history.specs.Book.{Book, blank}
 use Rattle.history.specs.History.{worldAfter, bookAfter, Reports, Separated, NetHolds, FileHolds, Holds}

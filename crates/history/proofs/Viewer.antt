@@ -9,15 +9,15 @@ use Rattle.game.specs.Net.{Net}
 use Rattle.refusal.specs.Refusal.{unless}
 use Rattle.refusal.specs.Verdict.{accepted, judged, isAccepted}
 use Rattle.refusal.specs.Outcome.{decided}
-use Rattle.moving.specs.declared.Moved.{Moved}
-use Rattle.moving.specs.Followed.{reread, Followed}
+use Rattle.moved.specs.declared.Moved.{Moved}
+use Rattle.moved.specs.Followed.{reread, Followed}
 use Rattle.growth.specs.Work.{NetWithWork, withWork}
-use Rattle.starting.specs.Start.{startRefusal, startOutcome}
-use Rattle.addable.specs.Refused.{addRefusal}
-use Rattle.adding.specs.Add.{addOutcome}
-use Rattle.joinable.specs.Refused.{joinRefusal}
-use Rattle.joining.specs.Join.{joinOutcome}
-use Rattle.reading.specs.Read.{readRefusal, readOutcome}
+use Rattle.start.specs.Start.{startRefusal, startOutcome}
+use Rattle.add_refusal.specs.Refused.{addRefusal}
+use Rattle.add.specs.Add.{addOutcome}
+use Rattle.join_refusal.specs.Refused.{joinRefusal}
+use Rattle.join.specs.Join.{joinOutcome}
+use Rattle.read.specs.Read.{readRefusal, readOutcome}
 use Rattle.forest.proofs.Followed.{add-followed, join-followed}
 use Rattle.history.specs.World.{World, Call, start, add, join, save, read, relabel, divide, report, index, query, separate, update, step, stepped}
 use Rattle.history.specs.History.{worldAfter}

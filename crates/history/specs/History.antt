@@ -22,8 +22,8 @@ use Rattle.cost.specs.declared.Totals.{Totals}
 use Rattle.cost.specs.Figures.{boundOf, volumeOf, totalsOf}
 use Rattle.report.specs.Report.{Lent, reportOutcome}
 use Rattle.ancestry.specs.declared.Separator.{Separator}
-use Rattle.separating.specs.Separate.{SeparateTables, separateOutcome}
-use Rattle.separating.specs.Separates.{Separates}
+use Rattle.separate.specs.Separate.{SeparateTables, separateOutcome}
+use Rattle.separate.specs.Separates.{Separates}
 use Rattle.history.specs.World.{World, Call, step}
 use Rattle.history.specs.Book.{NetRecord, FileRecord, Book, entry, note}
 

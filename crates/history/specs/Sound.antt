@@ -8,13 +8,13 @@ use Prim.Native.Nat.{ℕ}
 use Rattle.game.specs.Net.{Net}
 use Rattle.refusal.specs.Verdict.{refused}
 use Rattle.growth.specs.Work.{Work, NetWithWork, withWork}
-use Rattle.adding.specs.Add.{addOutcome}
-use Rattle.joining.specs.Join.{joinOutcome}
+use Rattle.add.specs.Add.{addOutcome}
+use Rattle.join.specs.Join.{joinOutcome}
 use Rattle.forest.specs.Promise.{Valid}
-use Rattle.saving.specs.Save.{saveOutcome}
-use Rattle.partition.specs.Divide.{DivisionTables, divideOutcome}
+use Rattle.save.specs.Save.{saveOutcome}
+use Rattle.divide.specs.Divide.{DivisionTables, divideOutcome}
 use Rattle.report.specs.Report.{Lent, reportOutcome}
-use Rattle.separating.specs.Separate.{SeparateTables, separateOutcome}
+use Rattle.separate.specs.Separate.{SeparateTables, separateOutcome}
 use Rattle.history.specs.World.{Call, start, add, join, save, read, relabel, divide, report, index, query, separate}
 
 -- the net that a call writes when it is accepted

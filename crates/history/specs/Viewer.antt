@@ -9,11 +9,11 @@ use mathlib.Core.Bool.{cond}
 use mathlib.Core.List.{List, [], _∷_}
 use Prim.Native.Nat.{ℕ}
 use Rattle.refusal.specs.Verdict.{Verdict, accepted, refused}
-use Rattle.moving.specs.declared.Moved.{Moved}
-use Rattle.moving.specs.Followed.{reread}
+use Rattle.moved.specs.declared.Moved.{Moved}
+use Rattle.moved.specs.Followed.{reread}
 use Rattle.growth.specs.Work.{withWork}
-use Rattle.adding.specs.Add.{addOutcome}
-use Rattle.joining.specs.Join.{joinOutcome}
+use Rattle.add.specs.Add.{addOutcome}
+use Rattle.join.specs.Join.{joinOutcome}
 use Rattle.history.specs.World.{World, Call, start, add, join, save, read, relabel, divide, report, index, query, separate, update, Step, step}
 
 -- an old table beside the new one, by what an addition or a join said

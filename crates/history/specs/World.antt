@@ -16,18 +16,18 @@ use Rattle.game.specs.Net.{Net}
 use Rattle.refusal.specs.Verdict.{isAccepted}
 use Rattle.refusal.specs.Outcome.{Outcome}
 use Rattle.growth.specs.Work.{Work, NetWithWork, withWork}
-use Rattle.starting.specs.Start.{startOutcome}
-use Rattle.adding.specs.Add.{addOutcome}
-use Rattle.joining.specs.Join.{joinOutcome}
-use Rattle.saving.specs.Save.{saveOutcome}
-use Rattle.reading.specs.Read.{readOutcome}
+use Rattle.start.specs.Start.{startOutcome}
+use Rattle.add.specs.Add.{addOutcome}
+use Rattle.join.specs.Join.{joinOutcome}
+use Rattle.save.specs.Save.{saveOutcome}
+use Rattle.read.specs.Read.{readOutcome}
 use Rattle.relabel.specs.Relabel.{RelabelTables, relabelOutcome}
-use Rattle.partition.specs.Divide.{DivisionTables, divideOutcome}
+use Rattle.divide.specs.Divide.{DivisionTables, divideOutcome}
 use Rattle.report.specs.Report.{Lent, reportOutcome}
-use Rattle.indexing.specs.Index.{Index}
-use Rattle.indexing.specs.Build.{indexOutcome}
-use Rattle.querying.specs.Query.{queryOutcome}
-use Rattle.separating.specs.Separate.{SeparateTables, separateOutcome}
+use Rattle.index.specs.Index.{Index}
+use Rattle.index.specs.Build.{indexOutcome}
+use Rattle.query.specs.Query.{queryOutcome}
+use Rattle.separate.specs.Separate.{SeparateTables, separateOutcome}
 
 -- nets and files by number; a file is its bytes
 pub record World : Type 0 where

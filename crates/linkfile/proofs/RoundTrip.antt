@@ -24,16 +24,16 @@ use Rattle.refusal.specs.Outcome.{ended, decided}
 use Rattle.net.specs.Damage.{damaged, damagedBy}
 use Rattle.net.proofs.Scan.{undamaged}
 use Rattle.records.specs.LinkFile.{records, linkFile, recordParents, recordWeights, fileNet}
-use Rattle.saving.specs.Save.{saveRefusal, saveOutcome}
-use Rattle.reading.specs.Read.{unfit, readRefusal, readOutcome}
+use Rattle.save.specs.Save.{saveRefusal, saveOutcome}
+use Rattle.read.specs.Read.{unfit, readRefusal, readOutcome}
 use Rattle.refusal.proofs.First.{good-count, unless-accepted}
 use Rattle.refusal.proofs.Ends.{accepted-none, ends-accepted}
 use Rattle.refusal.proofs.Never.{end-not, other-not, false-not, verdict-not}
 use Rattle.forest.specs.Promise.{Valid}
 use Rattle.forest.proofs.Promise.{valid-undamaged}
-use Rattle.saving.proofs.Accepted.{save-accepted, save-passes}
-use Rattle.reading.proofs.Accepted.{read-accepted, read-passes}
-use Rattle.reading.proofs.Records.{file-lengths}
+use Rattle.save.proofs.Accepted.{save-accepted, save-passes}
+use Rattle.read.proofs.Accepted.{read-accepted, read-passes}
+use Rattle.read.proofs.Records.{file-lengths}
 
 -- the columns of the records are the tables
 records-columns : (ps ws : List ℕ) → length ws ≡ length ps → (recordParents (records ps ws) ≡ ps) × (recordWeights (records ps ws) ≡ ws)

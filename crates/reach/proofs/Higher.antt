@@ -28,7 +28,7 @@ use Rattle.game.proofs.Forest.{forest-length, forest-sound, forest-within, with
 use Rattle.game.proofs.Ancestors.{under-climbs, climbs-under, forest-ancestor}
 use Rattle.game.proofs.Lists.{Rising, rising-over}
 use Rattle.game.proofs.Paths.{ancestors-rising}
-use Rattle.slots.proofs.Counts.{entry-some, some-entry-in, count-ext, count-more}
+use Rattle.reach_slots.proofs.Counts.{entry-some, some-entry-in, count-ext, count-more}
 
 -- ---- walks below x and edges of the filled graph
 

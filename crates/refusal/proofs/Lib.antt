@@ -1,5 +1,7 @@
-pub mod First
-pub mod Fault
+-- Laws of refusals, by subject. Nothing here needs to be believed: it is all proved.
+pub mod DivisionLimits
 pub mod Ends
-pub mod Sweep
+pub mod Fault
+pub mod First
 pub mod Never
+pub mod Sweep

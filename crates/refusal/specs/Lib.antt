@@ -1,7 +1,8 @@
--- Which inputs are refused, by document 01's numbers.
-pub mod Limits
-pub mod Refusal
-pub mod Verdict
+-- Which inputs are refused, by document 01's numbers, and the limits of a division.
 pub mod Answer
+pub mod DivisionLimits
+pub mod Limits
 pub mod Outcome
+pub mod Refusal
 pub mod Steps
+pub mod Verdict

@@ -1,4 +1,9 @@
 // Refusals: the answer type, document 01's limits, and the tests that several calls share.
+mod limits;
+
+pub use limits::MAX_BLOCKS;
+pub use limits::bad_limits;
+pub use limits::too_heavy;
 use table::wide;
 ghost use mathlib.Core.Path.{_≡_};
 ghost use mathlib.Core.Bool.{true};

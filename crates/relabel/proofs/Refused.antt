@@ -10,7 +10,7 @@ use Rattle.game.specs.Edge.{edges}
 use Rattle.refusal.specs.Limits.{maxVertices}
 use Rattle.refusal.specs.Refusal.{given, first, badCount, wrongLength, odd, firstFault}
 use Rattle.refusal.proofs.First.{pass, stop, first-none, first-last, given-none, right-length, wrong-length, length-right, even-list, odd-list, list-even, good-count}
-use Rattle.permutation.specs.Order.{badOrder}
+use Rattle.order.specs.Order.{badOrder}
 use Rattle.relabel.specs.Relabel.{relabelRefusal}
 use Rattle.game.specs.Table.{Below}
 use Rattle.relabel.proofs.Faultless.{faultless-below}

@@ -14,10 +14,10 @@ use Rattle.refusal.specs.Verdict.{accepted, refused}
 use Rattle.refusal.specs.Outcome.{ended}
 use Rattle.refusal.proofs.Fault.{faultless, fault-none, first-fault-on}
 use Rattle.refusal.proofs.Ends.{ends-refused, ends-accepted}
-use Rattle.permutation.specs.Order.{badOrder, rankOf, inverseOf}
+use Rattle.order.specs.Order.{badOrder, rankOf, inverseOf}
 use Rattle.relabel.specs.Relabel.{relabelled, relabelTables, relabelRefusal, relabelOutcome}
-use Rattle.permutation.specs.LookUp.{lookedUp}
-use Rattle.permutation.proofs.Rank.{rank-below, rank-injective}
+use Rattle.order.specs.LookUp.{lookedUp}
+use Rattle.order.proofs.Rank.{rank-below, rank-injective}
 use Rattle.relabel.proofs.Faultless.{faultless-cons}
 use Rattle.relabel.proofs.Refused.{relabel-known}
 

@@ -11,7 +11,7 @@ use lib.ListN.{length}
 use Rattle.game.specs.Edge.{edges}
 use Rattle.refusal.specs.Refusal.{given, first, badCount, wrongLength, odd, firstFault}
 use Rattle.refusal.specs.Outcome.{Done, done}
-use Rattle.permutation.specs.Order.{badOrder, rankOf, inverseOf}
+use Rattle.order.specs.Order.{badOrder, rankOf, inverseOf}
 
 -- a flat edge list, with the two ends of each edge replaced by their ranks; a last number that stands alone is no edge and stays
 unfoldable pub relabelled : List ℕ → List ℕ → List ℕ

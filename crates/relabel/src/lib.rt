@@ -1,7 +1,7 @@
 // Relabelling: an edge list in vertex numbers becomes one in ranks, by an order.
-use permutation::bad_order;
-use permutation::invert;
-use permutation::look_up;
+use order::bad_order;
+use order::invert;
+use order::look_up;
 use refusal::Answer;
 use refusal::bad_count;
 use refusal::list_fault;

@@ -12,8 +12,8 @@ use Rattle.refusal.specs.Refusal.{first}
 use Rattle.refusal.proofs.First.{first-pass, first-stop, first-last, unless-refused, unless-accepted}
 use Rattle.refusal.proofs.Fault.{faultless-proper}
 use Rattle.growth.specs.Work.{Work, cleared}
-use Rattle.partition.proofs.Refused.{divide-known}
-use Rattle.slots.specs.Given.{lowerCount, lowerCounts, Given}
+use Rattle.divide.proofs.Refused.{divide-known}
+use Rattle.reach_slots.specs.Given.{lowerCount, lowerCounts, Given}
 use Rattle.game.proofs.Weights.{weight-count}
 use Rattle.game.proofs.Tables.{tabulate-ext}
 use Rattle.cost.specs.declared.Totals.{Totals}
@@ -23,9 +23,9 @@ use Rattle.compare.specs.Steps.{Compared}
 use Rattle.refusal.specs.Verdict.{accepted, refused, judged}
 use Rattle.refusal.specs.Outcome.{ended}
 use Rattle.refusal.proofs.Ends.{judged-accepted, judged-refused}
-use Rattle.writing.specs.Written.{Written, figures}
-use Rattle.writing.specs.Steps.{Reportable, Answered}
-use Rattle.early.specs.Early.{earlyRefusal}
+use Rattle.report_write.specs.Written.{Written, figures}
+use Rattle.report_write.specs.Steps.{Reportable, Answered}
+use Rattle.report_refusal.specs.Refused.{earlyRefusal}
 use Rattle.report.specs.Report.{Lent, lent, wrongLent, reportRefusal, reportOutcome}
 use Rattle.compare.proofs.Unlike.{same-passes, found-own, found-other}
 use Rattle.report.proofs.Refused.{ready}

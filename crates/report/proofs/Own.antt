@@ -9,15 +9,15 @@ use lib.ListN.{length}
 use Rattle.game.specs.Edge.{edges}
 use Rattle.game.specs.Net.{Net, netOf}
 use Rattle.refusal.proofs.Never.{first-not, end-not, other-not, false-not, judged-number, verdict-not}
-use Rattle.likeness.proofs.Refused.{list-not}
+use Rattle.compare.proofs.Refused.{list-not}
 use Rattle.forest.specs.Promise.{Valid}
 use Rattle.forest.proofs.Promise.{valid-undamaged}
 use Rattle.refusal.specs.Verdict.{accepted, refused, judged}
 use Rattle.cost.specs.declared.Totals.{Totals}
 use Rattle.cost.specs.Figures.{totalsOf}
-use Rattle.likeness.specs.Likeness.{listRefusal}
+use Rattle.compare.specs.Likeness.{listRefusal}
 use Rattle.compare.specs.Compare.{unlike}
-use Rattle.early.specs.Early.{earlyRefusal}
+use Rattle.report_refusal.specs.Refused.{earlyRefusal}
 use Rattle.report.specs.Report.{Lent, wrongLent, reportRefusal, reportOutcome}
 use Rattle.compare.proofs.Unlike.{same-passes}
 

@@ -12,15 +12,15 @@ use Rattle.refusal.specs.Limits.{maxEdges}
 use Rattle.refusal.specs.Refusal.{badCount, odd, firstFault}
 use Rattle.refusal.proofs.First.{first-none, given-none, good-count, length-right}
 use Rattle.growth.specs.Work.{workOf, badWork}
-use Rattle.partition.specs.Divide.{divisionOf, wrongTables, divideRefusal}
-use Rattle.partition.proofs.Refused.{Sized, tables-not, refused-not}
+use Rattle.divide.specs.Divide.{divisionOf, wrongTables, divideRefusal}
+use Rattle.divide.proofs.Refused.{Sized, tables-not, refused-not}
 use Rattle.compare.specs.Compare.{wrongCompared}
 use Rattle.compare.specs.Steps.{Comparable}
-use Rattle.likeness.proofs.Refused.{list-passed}
+use Rattle.compare.proofs.Refused.{list-passed}
 use Rattle.compare.proofs.Ready.{ComparedLengths, compared-lengths, comparable}
-use Rattle.writing.specs.Written.{written}
-use Rattle.early.specs.Early.{earlyRefusal}
-use Rattle.early.specs.Steps.{wrongLengths}
+use Rattle.report_write.specs.Written.{written}
+use Rattle.report_refusal.specs.Refused.{earlyRefusal}
+use Rattle.report_refusal.specs.Steps.{wrongLengths}
 use Rattle.report.specs.Report.{Lent, lent, wrongFigures, wrongLent}
 
 -- the tables that are lent, one by one

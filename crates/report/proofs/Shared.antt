@@ -5,8 +5,8 @@ use mathlib.Core.List.{List}
 use Prim.Native.Nat.{ℕ}
 use Rattle.game.specs.Net.{Net, total}
 use Rattle.refusal.specs.Verdict.{accepted}
-use Rattle.sharing.specs.Share.{Even}
-use Rattle.sharing.proofs.Even.{share-even}
+use Rattle.share.specs.Share.{Even}
+use Rattle.share.proofs.Even.{share-even}
 use Rattle.cost.specs.declared.Totals.{Totals}
 use Rattle.cost.specs.Figures.{shareOf, totalsOf}
 use Rattle.report.specs.Report.{Lent, reportOutcome}

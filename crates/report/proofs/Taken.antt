@@ -10,12 +10,12 @@ use Rattle.game.specs.Net.{Net}
 use Rattle.game.proofs.Tables.{tabulate-entry}
 use Rattle.refusal.specs.Verdict.{accepted}
 use Rattle.refusal.proofs.First.{unless-accepted}
-use Rattle.partition.specs.Divide.{divided}
+use Rattle.divide.specs.Divide.{divided}
 use Rattle.cost.specs.declared.Totals.{Totals}
-use Rattle.meeting.specs.BlockCount.{blocksAt}
-use Rattle.meeting.specs.Taken.{edgesTaken, CountEnds}
-use Rattle.meeting.proofs.Taken.{taken-ends, ends-count, nothing-open}
-use Rattle.writing.specs.Written.{Written, figures}
+use Rattle.block_count.specs.BlockCount.{blocksAt}
+use Rattle.block_count.specs.Taken.{edgesTaken, CountEnds}
+use Rattle.block_count.proofs.Taken.{taken-ends, ends-count, nothing-open}
+use Rattle.report_write.specs.Written.{Written, figures}
 use Rattle.report.specs.Report.{Lent, reportOutcome}
 use Rattle.report.proofs.Together.{passed, some-block, written}
 

@@ -11,14 +11,14 @@ use Rattle.refusal.specs.Verdict.{accepted}
 use Rattle.refusal.proofs.Ends.{accepted-none}
 use Rattle.refusal.proofs.First.{first-none, unless-accepted}
 use Rattle.refusal.proofs.Fault.{faultless-proper}
-use Rattle.partition.specs.Divide.{divided}
-use Rattle.partition.proofs.Refused.{divide-known}
+use Rattle.divide.specs.Divide.{divided}
+use Rattle.divide.proofs.Refused.{divide-known}
 use Rattle.cost.specs.declared.Totals.{Totals}
 use Rattle.cost.specs.Laid.{Together}
 use Rattle.cost.proofs.Laid.{blocks-laid-together, block-charges}
 use Rattle.compare.specs.Compare.{unlike}
-use Rattle.writing.specs.Written.{Written, figures}
-use Rattle.early.specs.Early.{earlyRefusal}
+use Rattle.report_write.specs.Written.{Written, figures}
+use Rattle.report_refusal.specs.Refused.{earlyRefusal}
 use Rattle.report.specs.Report.{Lent, wrongLent, reportRefusal, reportOutcome}
 use Rattle.compare.proofs.Unlike.{passed-same}
 use Rattle.report.proofs.Refused.{ready}

@@ -1,3 +1,3 @@
 -- The call that reports on a division.
-pub mod Report
 pub mod Paper
+pub mod Report

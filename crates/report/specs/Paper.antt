@@ -13,20 +13,20 @@ use Rattle.game.specs.Net.{Net, net, netOf, reach}
 use Rattle.refusal.specs.Refusal.{given, first, unless, badCount, wrongLength, odd, fault, firstFault}
 use Rattle.net.specs.Damage.{damagedBy, damaged}
 use Rattle.growth.specs.Work.{workOf, badWork, zeros, cleared}
-use Rattle.limits.specs.DivisionLimits.{badLimits, tooHeavy}
-use Rattle.partition.specs.Divide.{divisionOf, divided, wrongTables}
-use Rattle.sharing.specs.Share.{share, evenShare}
-use Rattle.meeting.specs.BlockCount.{edgeBlock, edgeBlocks, blocksAt, different, blockCount}
+use Rattle.refusal.specs.DivisionLimits.{badLimits, tooHeavy}
+use Rattle.divide.specs.Divide.{divisionOf, divided, wrongTables}
+use Rattle.share.specs.Share.{share, evenShare}
+use Rattle.block_count.specs.BlockCount.{edgeBlock, edgeBlocks, blocksAt, different, blockCount}
 use Rattle.cost.specs.Figures.{isCut, bound, volume, boundOf, volumeOf, shareOf, totals, totalsOf}
-use Rattle.meeting.specs.Taken.{allMet, takenAfter, edgesTaken}
-use Rattle.likeness.specs.Likeness.{listRefusal, sameTable, sameNet}
+use Rattle.block_count.specs.Taken.{allMet, takenAfter, edgesTaken}
+use Rattle.compare.specs.Likeness.{listRefusal, sameTable, sameNet}
 use Rattle.compare.specs.Compare.{wrongCompared, unlike}
 use Rattle.game.specs.Case.{whole, own, other, others}
 use Rattle.refusal.specs.Verdict.{accepted, refused, judged}
 use Rattle.refusal.specs.Outcome.{Outcome, ended}
 use Rattle.cost.specs.declared.Totals.{Totals}
-use Rattle.writing.specs.Written.{Written, written, figures}
-use Rattle.early.specs.Early.{earlyRefusal}
+use Rattle.report_write.specs.Written.{Written, written, figures}
+use Rattle.report_refusal.specs.Refused.{earlyRefusal}
 use Rattle.report.specs.Report.{Lent, lent, wrongFigures, wrongLent, reportRefusal, reportOutcome}
 
 -- tables of the right lengths, lent with sevens in them

@@ -19,12 +19,12 @@ use Rattle.refusal.specs.Refusal.{first, unless, wrongLength, odd}
 use Rattle.refusal.specs.Verdict.{judged}
 use Rattle.refusal.specs.Outcome.{Outcome, ended}
 use Rattle.growth.specs.Work.{Work, cleared}
-use Rattle.partition.specs.Divide.{wrongTables}
+use Rattle.divide.specs.Divide.{wrongTables}
 use Rattle.cost.specs.declared.Totals.{Totals}
 use Rattle.cost.specs.Figures.{totalsOf}
-use Rattle.writing.specs.Written.{Written, figures}
+use Rattle.report_write.specs.Written.{Written, figures}
 use Rattle.compare.specs.Compare.{wrongCompared, unlike}
-use Rattle.early.specs.Early.{earlyRefusal}
+use Rattle.report_refusal.specs.Refused.{earlyRefusal}
 
 -- every table that Report is lent to write: those of a net, the comparison tables, and the work tables
 pub record Lent : Type 0 where

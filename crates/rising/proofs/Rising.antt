@@ -13,8 +13,8 @@ use Rattle.game.proofs.Bools.{or-neither}
 use Rattle.game.proofs.Edges.{edges-drop, edges-end}
 use Rattle.refusal.specs.Refusal.{firstFault}
 use Rattle.refusal.proofs.Fault.{first-fault-on}
-use Rattle.placing.specs.Ends.{endOf}
-use Rattle.tally.proofs.Sweep.{upper-faultless}
+use Rattle.bucket.specs.Ends.{endOf}
+use Rattle.bucket.proofs.Sweep.{upper-faultless}
 use Rattle.rising.specs.Rising.{Rises, stop, rise}
 
 pub rises-faultless : {n last : ℕ} {es : List Edge} → Rises n last es → firstFault n es ≡ 0

@@ -17,7 +17,7 @@ use Rattle.game.specs.Graph.{Linked, forth, back, Proper}
 use Rattle.game.proofs.Conn.{Conn, conn-step, linked-sym, linked-cases, linked-right}
 use Rattle.game.proofs.Proper.{edge-left, edge-right, linked-nil}
 use Rattle.refusal.proofs.Fault.{faultless}
-use Rattle.placing.specs.Ends.{endOf}
+use Rattle.bucket.specs.Ends.{endOf}
 use Rattle.growth.specs.Growth.{Standing, Climbed, Connects, newParents}
 use Rattle.growth.proofs.Climbs.{climb-alone, alone-joined}
 use Rattle.growth.proofs.Gather.{kept-conn}

@@ -8,7 +8,7 @@ use lib.ListN.{length, getD}
 use Rattle.game.specs.Edge.{Edge, edges}
 use Rattle.refusal.specs.Limits.{maxVertices}
 use Rattle.refusal.specs.Refusal.{fault}
-use Rattle.placing.specs.Ends.{endOf}
+use Rattle.bucket.specs.Ends.{endOf}
 
 -- no edge of a list on n vertices has a fault, and no upper end is below the one before, the first not below `last`
 pub data Rises (n : ℕ) : ℕ → List Edge → Type 0 where

@@ -1,15 +1,15 @@
 // A first list whose edges stand by rising upper end. The forest is grown upward from edges in that order, so this list is grown as it
 // stands: nothing is counted and nothing is filed.
+use bucket::end_of;
 use net::Net;
-use placing::end_of;
 use table::wide;
 ghost use mathlib.Core.Path.{_≡_};
 ghost use mathlib.Core.Bool.{true, false};
 ghost use lib.ListN.{length, replicate};
 ghost use Rattle.game.specs.Edge.{edges as edgesOf};
 ghost use Rattle.game.specs.Game.{absent, forest};
-ghost use Rattle.moving.specs.Steps.{Differ};
-ghost use Rattle.placing.specs.Ends.{tallied};
+ghost use Rattle.moved.specs.Steps.{Differ};
+ghost use Rattle.bucket.specs.Ends.{tallied};
 ghost use Rattle.growth.specs.Work.{workOf, cleared};
 ghost use Rattle.growth.specs.Growth.{newParents, Untouched};
 ghost use Rattle.growth.specs.Moves.{Moves};

@@ -14,20 +14,20 @@ use Rattle.refusal.specs.Refusal.{given, first, firstFault}
 use Rattle.refusal.proofs.First.{first-none, first-pass, first-stop, first-last, given-none, unless-refused}
 use Rattle.words.specs.Word.{words}
 use Rattle.words.proofs.Bytes.{words-length}
-use Rattle.permutation.specs.Order.{badOrder}
+use Rattle.order.specs.Order.{badOrder}
 use Rattle.relabel.specs.Relabel.{relabelled}
-use Rattle.limits.specs.DivisionLimits.{badLimits, tooHeavy}
+use Rattle.refusal.specs.DivisionLimits.{badLimits, tooHeavy}
 use Rattle.decimal.specs.Put.{Put}
 use Rattle.decimal.proofs.Runs.{put-front}
-use Rattle.printing.specs.Lines.{refusedText}
+use Rattle.lines.specs.Lines.{refusedText}
 use Rattle.files.specs.Files.{Files, vertexCount, order, edgeList, limit, blocks, vertexCapacity}
 use Rattle.files.specs.Refused.{fileRefusal}
 use Rattle.files.specs.Steps.{Loaded, endCapacity}
 use Rattle.files.proofs.Loading.{Sizes, sizes, sizes-pass}
 use Rattle.run.specs.Run.{rankedEdges, runNet, runRefusal}
-use Rattle.answering.specs.Text.{reportText, decidedText}
+use Rattle.run_report.specs.Text.{reportText, decidedText}
 use Rattle.run.specs.Text.{runText}
-use Rattle.answering.specs.Steps.{Runnable, netText}
+use Rattle.run_report.specs.Steps.{Runnable, netText}
 
 module _ (f : Files) where
   as-long : length (order f) ≡ vertexCount f

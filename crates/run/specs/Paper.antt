@@ -9,23 +9,23 @@ use Rattle.game.specs.Table.{tabulate, sum, count, member, filtered}
 use Rattle.game.specs.Edge.{lower, edges, touches}
 use Rattle.game.specs.Net.{owner, charge, weight, weights, netOf, reach}
 use Rattle.refusal.specs.Refusal.{given, first, unless, wrongLength, fault, firstFault}
-use Rattle.permutation.specs.Order.{badOrder}
+use Rattle.order.specs.Order.{badOrder}
 use Rattle.relabel.specs.Relabel.{relabelled}
-use Rattle.limits.specs.DivisionLimits.{badLimits, tooHeavy}
-use Rattle.partition.specs.Divide.{divided}
-use Rattle.sharing.specs.Share.{evenShare}
-use Rattle.meeting.specs.BlockCount.{edgeBlock, edgeBlocks, blocksAt, different, blockCount}
+use Rattle.refusal.specs.DivisionLimits.{badLimits, tooHeavy}
+use Rattle.divide.specs.Divide.{divided}
+use Rattle.share.specs.Share.{evenShare}
+use Rattle.block_count.specs.BlockCount.{edgeBlock, edgeBlocks, blocksAt, different, blockCount}
 use Rattle.cost.specs.Figures.{isCut, bound, volume, boundOf, volumeOf, shareOf, totalsOf}
-use Rattle.writing.specs.Written.{figures}
+use Rattle.report_write.specs.Written.{figures}
 use Rattle.words.specs.Word.{bytesOf, words, wordAt}
 use Rattle.decimal.specs.Ascii.{ascii}
 use Rattle.decimal.specs.Decimal.{decimal}
-use Rattle.fields.specs.Line.{spaced, newlined, parentText, lineText}
-use Rattle.printing.specs.Lines.{refusedText, rankText, linesBelow, shareText, totalsText}
+use Rattle.lines.specs.Line.{spaced, newlined, parentText, lineText}
+use Rattle.lines.specs.Lines.{refusedText, rankText, linesBelow, shareText, totalsText}
 use Rattle.files.specs.Files.{files, vertexCount, edgeCount, order, edgeList, limit, blocks}
 use Rattle.files.specs.Refused.{tooMany, partRecord, notRecords, fileRefusal}
 use Rattle.run.specs.Run.{rankedEdges, runNet, runRefusal}
-use Rattle.answering.specs.Text.{reportText, decidedText}
+use Rattle.run_report.specs.Text.{reportText, decidedText}
 use Rattle.run.specs.Text.{runText}
 
 -- the order and the edges of the whole case

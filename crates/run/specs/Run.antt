@@ -9,7 +9,7 @@ use Rattle.game.specs.Edge.{Edge, edges}
 use Rattle.game.specs.Net.{Net, netOf}
 use Rattle.refusal.specs.Refusal.{given, first}
 use Rattle.relabel.specs.Relabel.{relabelled}
-use Rattle.limits.specs.DivisionLimits.{tooHeavy}
+use Rattle.refusal.specs.DivisionLimits.{tooHeavy}
 use Rattle.files.specs.Files.{Files, vertexCount, order, edgeList, limit}
 use Rattle.files.specs.Refused.{fileRefusal}
 

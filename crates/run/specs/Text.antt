@@ -3,7 +3,7 @@
 use mathlib.Core.List.{List}
 use Prim.Native.Nat.{ℕ}
 use Rattle.files.specs.Files.{Files, order, limit, blocks}
-use Rattle.answering.specs.Text.{reportText, decidedText}
+use Rattle.run_report.specs.Text.{reportText, decidedText}
 use Rattle.run.specs.Run.{rankedEdges, runRefusal}
 
 -- what a run prints

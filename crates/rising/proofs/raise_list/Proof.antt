@@ -9,7 +9,7 @@ use Rattle.game.specs.Game.{absent}
 use Rattle.game.proofs.Edges.{edges-drop, edges-end}
 use Rattle.refusal.proofs.Fault.{faultless-proper}
 use Rattle.sorting.proofs.Tallied.{Counting, counting-room, counting-turn, counting-end}
-use Rattle.placing.specs.Ends.{endOf, tallied}
+use Rattle.bucket.specs.Ends.{endOf, tallied}
 use Rattle.growth.specs.Growth.{Upward, Untouched, newParents}
 use Rattle.growth.specs.Moves.{Moves}
 use Rattle.growth.proofs.Climbs.{upward-blank}

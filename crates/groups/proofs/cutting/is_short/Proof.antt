@@ -2,7 +2,7 @@ use native.Mathlib.Omega.{arith}
 use Prim.Native.Nat.{_-_}
 use borrow.Author.Needs.{needs}
 use borrow.Author.Tests.{ltb-true}
-use Rattle.trimming.specs.Steps.{Listed}
+use Rattle.cut.specs.Steps.{Listed}
 use Rattle.groups.proofs.Filing.{listed-inside, listed-on}
 use Rattle.groups.proofs.cutting.is_short.Statement.{statement}
 use Rattle.groups.proofs.cutting.is_short.Tie as tie

@@ -1,0 +1,101 @@
+use native.Mathlib.Omega.{arith}
+use mathlib.Core.Path.{sym, _∙_}
+use Rattle.refusal.proofs.First.{pass, stop, right-length, wrong-length, even-list, odd-list, good-count}
+use Rattle.net.proofs.Scan.{undamaged}
+use Rattle.growth.proofs.Tests.{work-length, damage}
+use Rattle.add_refusal.specs.Refused.{addRefusal}
+use Rattle.add_refusal.proofs.Steps.{tables-refused, tables-right, heavy-told, light-few}
+use borrow.Author.Needs.{needs}
+use Rattle.add_refusal.proofs.read_tables.Statement.{statement}
+use Rattle.add_refusal.proofs.read_tables.Tie as tie
+
+bad-count-requires : tie.Need-bad-count-requires
+bad-count-requires c κs = search needs
+
+returns : tie.Need-returns
+unfolding addRefusal
+returns c =
+    tables-refused _ _ _
+    (stop _ _ (sym (c .before .bad-count .ensures) ∙ c .if1 .taken))
+
+returns-2 : tie.Need-returns-2
+unfolding addRefusal
+returns-2 c =
+    tables-refused _ _ _
+    (pass _ _ (sym (c .before .before .bad-count .ensures) ∙ c .before .if1 .left)
+    ∙ stop _ _ (wrong-length _ _ (c .if2 .taken)))
+
+returns-3 : tie.Need-returns-3
+unfolding addRefusal
+returns-3 c =
+    tables-refused _ _ _
+    (pass _ _ (sym (c .before .before .before .bad-count .ensures) ∙ c .before .before .if1 .left)
+    ∙ pass _ _ (right-length _ _ (c .before .if2 .left))
+    ∙ stop _ _ (odd-list _ (c .if3 .taken)))
+
+add-bad-work : tie.Need-add-bad-work
+add-bad-work c = search needs
+
+bad-work-requires : tie.Need-bad-work-requires
+bad-work-requires c κs = search needs
+
+returns-4 : tie.Need-returns-4
+unfolding addRefusal
+returns-4 c =
+    tables-refused _ _ _
+    (pass _ _ (sym (c .before .before .before .before .before .bad-count .ensures) ∙ c .before .before .before .before .if1 .left)
+    ∙ pass _ _ (right-length _ _ (c .before .before .before .if2 .left))
+    ∙ pass _ _ (even-list _ (c .before .before .if3 .left))
+    ∙ stop _ _ (work-length _ _ _ (sym (c .before .bad-work .ensures) ∙ c .if4 .taken)))
+
+of-requires : tie.Need-of-requires
+of-requires c κs =
+    omega (arith, c .before .before .before .if2 .left, good-count _ (sym (c .before .before .before .before .before .bad-count .ensures) ∙ c .before .before .before .before .if1 .left) .1)
+
+is-damaged-requires : tie.Need-is-damaged-requires
+is-damaged-requires c κs =
+    good-count _ (sym (c .before .before .before .before .before .before .bad-count .ensures) ∙ c .before .before .before .before .before .if1 .left) .1
+
+returns-5 : tie.Need-returns-5
+unfolding addRefusal
+returns-5 c =
+    tables-refused _ _ _
+    (pass _ _ (sym (c .before .before .before .before .before .before .before .before .bad-count .ensures) ∙ c .before .before .before .before .before .before .before .if1 .left)
+    ∙ pass _ _ (right-length _ _ (c .before .before .before .before .before .before .if2 .left))
+    ∙ pass _ _ (even-list _ (c .before .before .before .before .before .if3 .left))
+    ∙ pass _ _ (work-length _ _ _ (sym (c .before .before .before .before .bad-work .ensures) ∙ c .before .before .before .if4 .left))
+    ∙ stop _ _ (damage _ (c .before .before .of .ensures) (sym (c .before .is-damaged .ensures) ∙ c .if5 .taken)))
+
+add-total : tie.Need-add-total
+add-total c =
+    omega (arith, undamaged _ _ (sym (c .before .before .is-damaged .ensures) ∙ c .before .if5 .left) .1)
+
+returns-6 : tie.Need-returns-6
+unfolding addRefusal
+returns-6 c =
+    tables-right _ _
+    (work-length _ _ _ (sym (c .before .before .before .before .before .bad-work .ensures) ∙ c .before .before .before .before .if4 .left))
+    (pass _ _ (sym (c .before .before .before .before .before .before .before .before .before .bad-count .ensures) ∙ c .before .before .before .before .before .before .before .before .if1 .left)
+    ∙ pass _ _ (right-length _ _ (c .before .before .before .before .before .before .before .if2 .left))
+    ∙ pass _ _ (even-list _ (c .before .before .before .before .before .before .if3 .left))
+    ∙ pass _ _ (work-length _ _ _ (sym (c .before .before .before .before .before .bad-work .ensures) ∙ c .before .before .before .before .if4 .left))
+    ∙ pass _ _ (damage _ (c .before .before .before .of .ensures) (sym (c .before .before .is-damaged .ensures) ∙ c .before .if5 .left))
+    ∙ heavy-told _ _ (c .before .before .before .of .ensures))
+    (light-few _ _)
+
+pub read-tables-spec : {M : Type 1} → statement M
+read-tables-spec =
+    tie.close
+    (tie.spec
+    bad-count-requires
+    returns
+    returns-2
+    returns-3
+    add-bad-work
+    bad-work-requires
+    returns-4
+    of-requires
+    is-damaged-requires
+    returns-5
+    add-total
+    returns-6)

@@ -1,4 +1,0 @@
-// Adding edges to a net.
-mod adding;
-
-pub use adding::add;

@@ -1,2 +1,0 @@
--- What indexes and queries say together.
-pub mod Neighbours

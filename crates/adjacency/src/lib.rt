@@ -1,1 +1,0 @@
-// No code: what indexes and queries say together.

@@ -1,5 +1,0 @@
--- Laws of the steps. Nothing here needs to be believed: it is all proved.
-pub mod Growing
-pub mod Reporting
-pub mod Zeroed
-pub mod Dividing

@@ -1,0 +1,109 @@
+use native.Mathlib.Omega.{arith}
+use mathlib.Core.Path.{sym, _∙_}
+use Prim.Native.Nat.{_-_}
+use lib.ListN.{length}
+use Rattle.block_count.proofs.Sweep.{low-end, SweepTurn, sweep-start, sweep-none, sweep-end, sweep-first, sweep-less, sweep-second, sweep-less-again, sweep-step}
+use borrow.Author.Needs.{needs}
+use Rattle.block_count.proofs.waiting.settle.Statement.{statement}
+use Rattle.block_count.proofs.waiting.settle.Tie as tie
+
+abbrev Inv-loop : tie.InvT-loop
+Inv-loop edges block pending₀ edges-taken₀ waiting₀ i₀ pending edges-taken waiting i = SweepTurn edges block pending₀ edges-taken₀ pending edges-taken waiting i
+
+abbrev μ-loop : tie.MeasureT-loop
+μ-loop edges block pending₀ edges-taken₀ waiting₀ i₀ pending edges-taken waiting i = length edges - i
+
+count-waiting-requires : tie.Need-count-waiting-requires Inv-loop μ-loop
+count-waiting-requires c κs = omega (arith, c .before .before .before .before .before .pre .few, c .before .before .before .before .before .pre .pending-long)
+
+loop-holds : tie.Need-loop-holds Inv-loop μ-loop
+loop-holds c = sweep-start (c .before .before .before .before .before .before .pre) (c .count-waiting .ensures)
+
+add-loop : tie.Need-add-loop Inv-loop μ-loop
+add-loop c = search needs
+
+same-length : tie.Need-same-length Inv-loop μ-loop
+same-length c = c .before .before .loop .inv .pending-long ∙ sym (c .before .before .before .before .before .before .before .before .before .pre .pending-long)
+
+same-length-2 : tie.Need-same-length-2 Inv-loop μ-loop
+same-length-2 c = c .before .before .loop .inv .taken-long ∙ sym (c .before .before .before .before .before .before .before .before .before .pre .taken-long)
+
+returns : tie.Need-returns Inv-loop μ-loop
+returns c = sweep-none (c .before .before .before .before .before .before .before .before .before .pre) (c .before .before .loop .inv) (c .if1 .taken)
+
+mul-a : tie.Need-mul-a Inv-loop μ-loop
+mul-a c = search needs
+
+shared-slice-read-a : tie.Need-shared-slice-read-a Inv-loop μ-loop
+shared-slice-read-a c = search needs
+
+add-b : tie.Need-add-b Inv-loop μ-loop
+add-b c = search needs
+
+mul-b : tie.Need-mul-b Inv-loop μ-loop
+mul-b c = search needs
+
+shared-slice-read-b : tie.Need-shared-slice-read-b Inv-loop μ-loop
+shared-slice-read-b c = search needs
+
+end-of-requires : tie.Need-end-of-requires Inv-loop μ-loop
+end-of-requires c κs = search needs
+
+pass-requires : tie.Need-pass-requires Inv-loop μ-loop
+pass-requires c κs = sweep-first (c .before .before .before .before .before .before .before .before .before .before .before .before .before .before .pre) (c .before .before .before .before .before .before .before .loop .inv) (c .before .before .before .before .before .before .loop-test .taken) (low-end _ _ (c .before .before .end-of .ensures))
+
+sub-waiting : tie.Need-sub-waiting Inv-loop μ-loop
+sub-waiting c = sweep-less (c .before .before .before .before .before .before .before .before .before .before .before .before .before .before .before .before .before .before .before .pre) (c .before .before .before .before .before .before .before .before .before .before .before .before .loop .inv) (c .before .before .before .before .before .before .before .before .before .before .before .loop-test .taken) (low-end _ _ (c .before .before .before .before .before .before .before .end-of .ensures)) (c .before .before .before .before .pass .ensures)
+
+pass-requires-2 : tie.Need-pass-requires-2 Inv-loop μ-loop
+pass-requires-2 c κs = sweep-second (c .before .before .before .before .before .before .before .before .before .before .before .before .before .before .before .before .before .before .before .before .before .pre) (c .before .before .before .before .before .before .before .before .before .before .before .before .before .before .loop .inv) (c .before .before .before .before .before .before .before .before .before .before .before .before .before .loop-test .taken) (low-end _ _ (c .before .before .before .before .before .before .before .before .before .end-of .ensures)) (c .before .before .before .before .before .before .pass .ensures)
+
+sub-waiting-2 : tie.Need-sub-waiting-2 Inv-loop μ-loop
+sub-waiting-2 c = sweep-less-again (c .before .before .before .before .before .before .before .before .before .before .before .before .before .before .before .before .before .before .before .before .before .before .before .before .before .before .pre) (c .before .before .before .before .before .before .before .before .before .before .before .before .before .before .before .before .before .before .before .loop .inv) (c .before .before .before .before .before .before .before .before .before .before .before .before .before .before .before .before .before .before .loop-test .taken) (low-end _ _ (c .before .before .before .before .before .before .before .before .before .before .before .before .before .before .end-of .ensures)) (c .before .before .before .before .before .before .before .before .before .before .before .pass .ensures) (c .before .before .before .before .pass2 .ensures)
+
+add-i : tie.Need-add-i Inv-loop μ-loop
+add-i c = search needs
+
+loop-less : tie.Need-loop-less Inv-loop μ-loop
+loop-less c = search needs
+
+loop-again : tie.Need-loop-again Inv-loop μ-loop
+loop-again c = sweep-step (c .before .before .before .before .before .before .before .before .before .before .before .before .before .before .before .before .before .before .before .before .before .before .before .before .before .before .pre) (c .before .before .before .before .before .before .before .before .before .before .before .before .before .before .before .before .before .before .before .loop .inv) (c .before .before .before .before .before .before .before .before .before .before .before .before .before .before .before .before .before .before .loop-test .taken) (low-end _ _ (c .before .before .before .before .before .before .before .before .before .before .before .before .before .before .end-of .ensures)) (c .before .before .before .before .before .before .before .before .before .before .before .pass .ensures) (c .before .before .before .before .pass2 .ensures)
+
+same-length-3 : tie.Need-same-length-3 Inv-loop μ-loop
+same-length-3 c = c .before .loop .inv .pending-long ∙ sym (c .before .before .before .before .before .before .before .before .pre .pending-long)
+
+same-length-4 : tie.Need-same-length-4 Inv-loop μ-loop
+same-length-4 c = c .before .loop .inv .taken-long ∙ sym (c .before .before .before .before .before .before .before .before .pre .taken-long)
+
+returns-2 : tie.Need-returns-2 Inv-loop μ-loop
+returns-2 c = sweep-end (c .before .before .before .before .before .before .before .before .pre) (c .before .loop .inv) (c .loop-test .left)
+
+pub settle-spec : {M : Type 1} → statement M
+settle-spec =
+    tie.close
+    (tie.spec
+    Inv-loop
+    μ-loop
+    count-waiting-requires
+    loop-holds
+    add-loop
+    same-length
+    same-length-2
+    returns
+    mul-a
+    shared-slice-read-a
+    add-b
+    mul-b
+    shared-slice-read-b
+    end-of-requires
+    pass-requires
+    sub-waiting
+    pass-requires-2
+    sub-waiting-2
+    add-i
+    loop-less
+    loop-again
+    same-length-3
+    same-length-4
+    returns-2)

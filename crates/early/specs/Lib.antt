@@ -1,3 +1,0 @@
--- The early refusals of a report.
-pub mod Early
-pub mod Steps

@@ -1,2 +1,0 @@
--- Laws of fields. Nothing here needs to be believed: it is all proved.
-pub mod Pieces

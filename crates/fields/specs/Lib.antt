@@ -1,3 +1,0 @@
--- The fields of a printed line.
-pub mod Line
-pub mod Steps

@@ -1,0 +1,4 @@
+-- Laws by subject.
+pub mod Accepted
+pub mod Laid
+pub mod Refused

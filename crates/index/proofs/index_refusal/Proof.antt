@@ -1,0 +1,140 @@
+use mathlib.Core.Path.{sym, _∙_}
+use native.Mathlib.Omega.{arith}
+use borrow.Author.Needs.{needs}
+use borrow.Author.Tests.{eq-eqb, ne-eqb}
+use Rattle.game.specs.Edge.{edges}
+use Rattle.refusal.proofs.First.{pass, stop, first-end, first-pass, first-stop, right-length, wrong-length, even-list, odd-list}
+use Rattle.index.specs.Index.{vertices}
+use Rattle.index.specs.Build.{indexRefusal}
+use Rattle.refusal.proofs.Fault.{fault-first, fault-second}
+use Rattle.index.proofs.Refused.{both-length, too-many, not-many}
+use Rattle.index.proofs.index_refusal.Statement.{statement}
+use Rattle.index.proofs.index_refusal.Tie as tie
+
+returns : tie.Need-returns
+unfolding indexRefusal vertices
+returns c = sym (stop _ _ (eq-eqb _ _ (c .if1 .taken)))
+
+sub-n : tie.Need-sub-n
+sub-n c = search needs
+
+bad-count-requires : tie.Need-bad-count-requires
+bad-count-requires c κs = search needs
+
+returns-2 : tie.Need-returns-2
+unfolding indexRefusal vertices
+returns-2 c =
+    sym
+    (pass _ _ (ne-eqb _ _ (c .before .before .if1 .left))
+    ∙ stop _ _ (sym (c .before .bad-count .ensures) ∙ c .if2 .taken))
+
+returns-3 : tie.Need-returns-3
+unfolding indexRefusal vertices
+returns-3 c =
+    sym
+    (pass _ _ (ne-eqb _ _ (c .before .before .before .if1 .left))
+    ∙ pass _ _ (sym (c .before .before .bad-count .ensures) ∙ c .before .if2 .left)
+    ∙ stop _ _ (odd-list _ (c .if3 .taken)))
+
+returns-4 : tie.Need-returns-4
+unfolding indexRefusal vertices
+returns-4 c =
+    sym
+    (pass _ _ (ne-eqb _ _ (c .before .before .before .before .if1 .left))
+    ∙ pass _ _ (sym (c .before .before .before .bad-count .ensures) ∙ c .before .before .if2 .left)
+    ∙ pass _ _ (even-list _ (c .before .if3 .left))
+    ∙ stop _ _ (odd-list _ (c .if4 .taken)))
+
+add-edges : tie.Need-add-edges
+add-edges c = search needs
+
+mul-if5 : tie.Need-mul-if5
+mul-if5 c = search needs
+
+returns-5 : tie.Need-returns-5
+unfolding indexRefusal vertices
+returns-5 c =
+    sym
+    (pass _ _ (ne-eqb _ _ (c .before .before .before .before .before .if1 .left))
+    ∙ pass _ _ (sym (c .before .before .before .before .bad-count .ensures) ∙ c .before .before .before .if2 .left)
+    ∙ pass _ _ (even-list _ (c .before .before .if3 .left))
+    ∙ pass _ _ (even-list _ (c .before .if4 .left))
+    ∙ stop _ _ (wrong-length _ _ (λ e. c .if5 .taken (omega (arith, e, both-length (c .before .before .before .before .before .before .before .before .before .before .args .old .now) (c .before .before .before .before .before .before .before .before .before .before .args .added .now))))))
+
+list-fault-requires : tie.Need-list-fault-requires
+list-fault-requires c κs = search needs
+
+returns-6 : tie.Need-returns-6
+unfolding indexRefusal vertices
+returns-6 c =
+    let first-of = fault-first _ _ _ (λ z. c .if6 .taken (c .before .list-fault .ensures ∙ z)) in
+    sym
+    (pass _ _ (ne-eqb _ _ (c .before .before .before .before .before .before .before .if1 .left))
+    ∙ pass _ _ (sym (c .before .before .before .before .before .before .bad-count .ensures) ∙ c .before .before .before .before .before .if2 .left)
+    ∙ pass _ _ (even-list _ (c .before .before .before .before .if3 .left))
+    ∙ pass _ _ (even-list _ (c .before .before .before .if4 .left))
+    ∙ pass _ _ (right-length _ _ (omega (arith, c .before .before .if5 .left, both-length (c .before .before .before .before .before .before .before .before .before .before .before .before .args .old .now) (c .before .before .before .before .before .before .before .before .before .before .before .before .args .added .now))))
+    ∙ first-stop _ _ (λ z. c .if6 .taken (c .before .list-fault .ensures ∙ sym (first-of) ∙ z))
+    ∙ first-of
+    ∙ sym (c .before .list-fault .ensures))
+
+list-fault-requires-2 : tie.Need-list-fault-requires-2
+list-fault-requires-2 c κs = search needs
+
+returns-7 : tie.Need-returns-7
+unfolding indexRefusal vertices
+returns-7 c =
+    sym
+    (pass _ _ (ne-eqb _ _ (c .before .before .before .before .before .before .before .before .before .if1 .left))
+    ∙ pass _ _ (sym (c .before .before .before .before .before .before .before .before .bad-count .ensures) ∙ c .before .before .before .before .before .before .before .if2 .left)
+    ∙ pass _ _ (even-list _ (c .before .before .before .before .before .before .if3 .left))
+    ∙ pass _ _ (even-list _ (c .before .before .before .before .before .if4 .left))
+    ∙ pass _ _ (right-length _ _ (omega (arith, c .before .before .before .before .if5 .left, both-length (c .before .before .before .before .before .before .before .before .before .before .before .before .before .before .args .old .now) (c .before .before .before .before .before .before .before .before .before .before .before .before .before .before .args .added .now))))
+    ∙ first-stop _ _ (λ z. c .if7 .taken (c .before .list-fault2 .ensures ∙ sym (fault-second _ (edges (c .before .before .before .before .before .before .before .before .before .before .before .before .before .before .args .old .now)) (edges (c .before .before .before .before .before .before .before .before .before .before .before .before .before .before .args .added .now)) (sym (c .before .before .before .list-fault .ensures) ∙ c .before .before .if6 .left)) ∙ z))
+    ∙ fault-second _ (edges (c .before .before .before .before .before .before .before .before .before .before .before .before .before .before .args .old .now)) (edges (c .before .before .before .before .before .before .before .before .before .before .before .before .before .before .args .added .now)) (sym (c .before .before .before .list-fault .ensures) ∙ c .before .before .if6 .left)
+    ∙ sym (c .before .list-fault2 .ensures))
+
+returns-8 : tie.Need-returns-8
+unfolding indexRefusal vertices
+returns-8 c =
+    sym
+    (pass _ _ (ne-eqb _ _ (c .before .before .before .before .before .before .before .before .before .before .if1 .left))
+    ∙ pass _ _ (sym (c .before .before .before .before .before .before .before .before .before .bad-count .ensures) ∙ c .before .before .before .before .before .before .before .before .if2 .left)
+    ∙ pass _ _ (even-list _ (c .before .before .before .before .before .before .before .if3 .left))
+    ∙ pass _ _ (even-list _ (c .before .before .before .before .before .before .if4 .left))
+    ∙ pass _ _ (right-length _ _ (omega (arith, c .before .before .before .before .before .if5 .left, both-length (c .before .before .before .before .before .before .before .before .before .before .before .before .before .before .before .args .old .now) (c .before .before .before .before .before .before .before .before .before .before .before .before .before .before .before .args .added .now))))
+    ∙ first-pass _ _ (fault-second _ (edges (c .before .before .before .before .before .before .before .before .before .before .before .before .before .before .before .args .old .now)) (edges (c .before .before .before .before .before .before .before .before .before .before .before .before .before .before .before .args .added .now)) (sym (c .before .before .before .before .list-fault .ensures) ∙ c .before .before .before .if6 .left) ∙ sym (c .before .before .list-fault2 .ensures) ∙ c .before .if7 .left)
+    ∙ stop _ _ (too-many _ _ (c .if8 .taken)))
+
+returns-9 : tie.Need-returns-9
+unfolding indexRefusal vertices
+returns-9 c =
+    sym
+    (pass _ _ (ne-eqb _ _ (c .before .before .before .before .before .before .before .before .before .before .if1 .left))
+    ∙ pass _ _ (sym (c .before .before .before .before .before .before .before .before .before .bad-count .ensures) ∙ c .before .before .before .before .before .before .before .before .if2 .left)
+    ∙ pass _ _ (even-list _ (c .before .before .before .before .before .before .before .if3 .left))
+    ∙ pass _ _ (even-list _ (c .before .before .before .before .before .before .if4 .left))
+    ∙ pass _ _ (right-length _ _ (omega (arith, c .before .before .before .before .before .if5 .left, both-length (c .before .before .before .before .before .before .before .before .before .before .before .before .before .before .before .args .old .now) (c .before .before .before .before .before .before .before .before .before .before .before .before .before .before .before .args .added .now))))
+    ∙ first-pass _ _ (fault-second _ (edges (c .before .before .before .before .before .before .before .before .before .before .before .before .before .before .before .args .old .now)) (edges (c .before .before .before .before .before .before .before .before .before .before .before .before .before .before .before .args .added .now)) (sym (c .before .before .before .before .list-fault .ensures) ∙ c .before .before .before .if6 .left) ∙ sym (c .before .before .list-fault2 .ensures) ∙ c .before .if7 .left)
+    ∙ pass _ _ (not-many _ _ (c .if8 .left))
+    ∙ first-end)
+
+pub index-refusal-spec : {M : Type 1} → statement M
+index-refusal-spec =
+    tie.close
+    (tie.spec
+    returns
+    sub-n
+    bad-count-requires
+    returns-2
+    returns-3
+    returns-4
+    add-edges
+    mul-if5
+    returns-5
+    list-fault-requires
+    returns-6
+    list-fault-requires-2
+    returns-7
+    returns-8
+    returns-9)

@@ -1,4 +1,0 @@
--- Laws by subject.
-pub mod Refused
-pub mod Laid
-pub mod Accepted

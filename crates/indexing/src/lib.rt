@@ -1,4 +1,0 @@
-// An index of neighbours beside a list of edges.
-mod indexing;
-
-pub use indexing::index;

@@ -1,0 +1,125 @@
+use mathlib.Core.Path.{refl, sym, ap, _∙_}
+use Prim.Native.Nat.{ℕ}
+use native.Mathlib.Omega.{arith}
+use borrow.Author.Needs.{needs}
+use Rattle.game.specs.Edge.{edges as edgesOf}
+use Rattle.bucket.specs.PlacingSteps.{upperCounts}
+use Rattle.growth.proofs.NewParents.{links-blank}
+use Rattle.growth.proofs.Regrown.{filed-growable, grown-filed}
+use Rattle.growth.proofs.Rooms.{same-room}
+use Rattle.insert.proofs.First.{first-links, list-weighs}
+use Rattle.insert.proofs.Puts.{put-none}
+use Rattle.insert.proofs.Rest.{rest-grown}
+use Rattle.insert.proofs.growing.grow_counted.Statement.{statement}
+use Rattle.insert.proofs.growing.grow_counted.Tie as tie
+
+is-all-requires : tie.Need-is-all-requires
+is-all-requires c κs = search needs
+
+file-counted-requires : tie.Need-file-counted-requires
+file-counted-requires c κs =
+    let s : tie.Start = c .before .before .before .before .before .before .before .before .before .before .before in
+    let e = s .pre .0 in
+    (s .pre .2 ∙ ap (λ (k : ℕ). upperCounts k (edgesOf (s .args .edges .now))) (sym (e .long)), (rw (e .long) (e .faultless), (omega (arith, e .room), omega (arith, e .small))))
+
+grow-requires : tie.Need-grow-requires
+grow-requires c κs =
+    let s : tie.Start = c .before .before .before .before .before .before .before .before .before .before .before .before .before .before .before .before .before .before .before .before .before in
+    let e = s .pre .0 in
+    let d : tie.After-file-counted = c .before .before .before .before .before .before .before .before .before in
+    (filed-growable (d .file-counted .ensures) (omega (arith, e .long, e .table .few)) (sym (e .long)) (e .long-jump ∙ sym (e .long)), record { light = λ v h. omega (arith, s .pre .1 .light .light v h, d .file-counted .kept .1 .1 .0) })
+
+same-length : tie.Need-same-length
+same-length c = search needs
+
+same-length-2 : tie.Need-same-length-2
+same-length-2 c = search needs
+
+same-length-3 : tie.Need-same-length-3
+same-length-3 c = search needs
+
+same-length-4 : tie.Need-same-length-4
+same-length-4 c = search needs
+
+same-length-5 : tie.Need-same-length-5
+same-length-5 c = search needs
+
+returns : tie.Need-returns
+returns c =
+    let s : tie.Start = c .before .before .before .before .before .before .before .before .before .before .before .before .before .before .before .before .before .before .before .before .before .before .before .before .before .before .before .before .before .before .before .before in
+    let d : tie.After-file-counted = c .before .before .before .before .before .before .before .before .before .before .before .before .before .before .before .before .before .before .before .before in
+    let blank = c .before .before .before .before .before .before .before .before .before .before .before .before .before .before .before .before .before .before .before .before .before .before .before .before .is-all .ensures (c .before .before .before .before .before .before .before .before .before .before .before .before .before .before .before .before .before .before .before .before .before .before .before .if1 .taken) in
+    let g = grown-filed (d .file-counted .ensures) (links-blank _ blank) (c .before .before .before .before .before .before .before .before .before .before .grow .ensures .0 .grown) in (
+      record {
+        grown = g .0 ∙ first-links _ blank (s .pre .0 .long);
+        clear = c .before .before .before .before .before .before .before .before .before .before .grow .ensures .0 .clear ∙ same-room _ _ _ _ _ _ (d .file-counted .kept .1 .0) refl (d .file-counted .kept .1 .1 .0);
+      },
+      g .1,
+      c .before .before .before .before .before .before .before .before .before .before .grow .ensures .1,
+    )
+
+tally-requires : tie.Need-tally-requires
+tally-requires c κs =
+    let s : tie.Start = c .before .before .before .before .before .before .before .before .before .before in
+    list-weighs (s .pre .0) (s .pre .1)
+
+file-counted-edges-requires : tie.Need-file-counted-edges-requires
+file-counted-edges-requires c κs =
+    let s : tie.Start = c .before .before .before .before .before .before .before .before .before .before .before .before .before .before .before .before in
+    let e = s .pre .0 in
+    (s .pre .2, (e .table .sound, (e .faultless, (e .room, omega (arith, e .small)))))
+
+regrow-requires : tie.Need-regrow-requires
+regrow-requires c κs =
+    let e = c .before .before .before .before .before .before .before .before .before .before .before .before .before .before .before .before .before .before .before .before .before .before .before .before .before .pre .0 in
+    filed-growable (c .before .before .before .before .before .before .before .before .file-counted-edges .ensures) (e .table .few) refl (e .long-jump)
+
+same-length-6 : tie.Need-same-length-6
+same-length-6 c = search needs
+
+same-length-7 : tie.Need-same-length-7
+same-length-7 c = search needs
+
+same-length-8 : tie.Need-same-length-8
+same-length-8 c = search needs
+
+same-length-9 : tie.Need-same-length-9
+same-length-9 c = search needs
+
+same-length-10 : tie.Need-same-length-10
+same-length-10 c = search needs
+
+returns-2 : tie.Need-returns-2
+returns-2 c =
+    let e = c .before .before .before .before .before .before .before .before .before .before .before .before .before .before .before .before .before .before .before .before .before .before .before .before .before .before .before .before .before .before .before .before .before .before .pre .0 in
+    let d : tie.After-file-counted-edges = c .before .before .before .before .before .before .before .before .before .before .before .before .before .before .before .before .before in (
+      record {
+        grown = rest-grown e (put-none (e .table) (e .faultless)) refl (d .file-counted-edges .ensures) (c .before .before .before .before .before .before .before .before .regrow .ensures .0);
+        clear = c .before .before .before .before .before .before .before .before .regrow .ensures .0 .clear ∙ same-room _ _ _ _ _ _ (d .file-counted-edges .kept .1 .1 .0) refl (d .file-counted-edges .kept .1 .1 .1 .0);
+      },
+      c .before .before .before .before .before .before .before .before .before .before .before .before .before .before .before .before .before .before .before .before .before .before .before .tally .ensures,
+      c .before .before .before .before .before .before .before .before .regrow .ensures .1,
+    )
+
+pub grow-counted-spec : {M : Type 1} → statement M
+grow-counted-spec =
+    tie.close
+    (tie.spec
+    is-all-requires
+    file-counted-requires
+    grow-requires
+    same-length
+    same-length-2
+    same-length-3
+    same-length-4
+    same-length-5
+    returns
+    tally-requires
+    file-counted-edges-requires
+    regrow-requires
+    same-length-6
+    same-length-7
+    same-length-8
+    same-length-9
+    same-length-10
+    returns-2)

@@ -1,0 +1,92 @@
+use native.Mathlib.Omega.{arith}
+use Prim.Native.Nat.{_+_, _-_, _≤_}
+use lib.ListN.{length}
+use Rattle.moved.specs.Steps.{Fallen}
+use Rattle.moved.proofs.Fallen.{fallen-none}
+use Rattle.insert.specs.Putting.{PutUpTo}
+use Rattle.insert.proofs.Puts.{put-none, put-ends, put-next}
+use borrow.Author.Needs.{needs}
+use Rattle.insert.proofs.putting.put_some.Statement.{statement}
+use Rattle.insert.proofs.putting.put_some.Tie as tie
+
+abbrev Inv-loop : tie.InvT-loop
+Inv-loop parents₀ edges budget moved₀ steps₀ i₀ parents moved steps i = PutUpTo parents₀ edges parents i × (steps ≤ budget + length parents₀) × Fallen parents₀ parents moved
+
+abbrev μ-loop : tie.MeasureT-loop
+μ-loop parents₀ edges budget moved₀ steps₀ i₀ parents moved steps i = length edges - i
+
+loop-holds : tie.Need-loop-holds Inv-loop μ-loop
+loop-holds c = (put-none (c .before .before .pre .0) (c .before .before .pre .1), omega arith, fallen-none _)
+
+add-loop : tie.Need-add-loop Inv-loop μ-loop
+add-loop c = search needs
+
+same-length : tie.Need-same-length Inv-loop μ-loop
+same-length c = c .before .before .loop .inv .0 .same
+
+returns : tie.Need-returns Inv-loop μ-loop
+returns c = (c .before .before .loop .inv .0, c .before .before .loop .inv .2)
+
+mul-put : tie.Need-mul-put Inv-loop μ-loop
+mul-put c = search needs
+
+shared-slice-read-put : tie.Need-shared-slice-read-put Inv-loop μ-loop
+shared-slice-read-put c = search needs
+
+add-put : tie.Need-add-put Inv-loop μ-loop
+add-put c = search needs
+
+mul-put-2 : tie.Need-mul-put-2 Inv-loop μ-loop
+mul-put-2 c = search needs
+
+shared-slice-read-put-2 : tie.Need-shared-slice-read-put-2 Inv-loop μ-loop
+shared-slice-read-put-2 c = search needs
+
+put-requires : tie.Need-put-requires Inv-loop μ-loop
+put-requires c κs =
+    let u = c .before .before .before .before .before .loop .inv .0 in
+    (record { few = omega (arith, u .same, c .before .before .before .before .before .before .before .before .pre .0 .few); sound = u .sound }, put-ends u (c .before .before .before .before .loop-test .taken) .0, put-ends u (c .before .before .before .before .loop-test .taken) .1, put-ends u (c .before .before .before .before .loop-test .taken) .2)
+
+add-steps : tie.Need-add-steps Inv-loop μ-loop
+add-steps c = omega (arith, c .before .before .before .put .ensures .0 .quick, c .before .before .before .before .before .before .before .before .before .loop .inv .0 .same, c .before .before .before .before .before .before .before .if1 .left, c .before .before .before .before .before .before .before .before .before .before .before .before .pre .0 .few, c .before .before .before .before .before .before .before .before .before .before .before .before .pre .2)
+
+add-i : tie.Need-add-i Inv-loop μ-loop
+add-i c = search needs
+
+loop-less : tie.Need-loop-less Inv-loop μ-loop
+loop-less c = search needs
+
+loop-again : tie.Need-loop-again Inv-loop μ-loop
+loop-again c =
+    let t = c .before .before .before .before .before .before .before .before .before .loop .inv in
+    let x = c .before .before .before .put .ensures in
+    (put-next (t .0) (c .before .before .before .before .before .before .before .before .loop-test .taken) (x .0), omega (arith, x .0 .quick, t .0 .same, c .before .before .before .before .before .before .before .if1 .left), x .1 .fallen _ (t .2))
+
+same-length-2 : tie.Need-same-length-2 Inv-loop μ-loop
+same-length-2 c = c .before .loop .inv .0 .same
+
+returns-2 : tie.Need-returns-2 Inv-loop μ-loop
+returns-2 c = (c .before .loop .inv .0, c .before .loop .inv .2)
+
+pub put-some-spec : {M : Type 1} → statement M
+put-some-spec =
+    tie.close
+    (tie.spec
+    Inv-loop
+    μ-loop
+    loop-holds
+    add-loop
+    same-length
+    returns
+    mul-put
+    shared-slice-read-put
+    add-put
+    mul-put-2
+    shared-slice-read-put-2
+    put-requires
+    add-steps
+    add-i
+    loop-less
+    loop-again
+    same-length-2
+    returns-2)

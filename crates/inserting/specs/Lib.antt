@@ -1,2 +1,0 @@
--- A list of edges taken into a net.
-pub mod Extending

@@ -1,0 +1,164 @@
+use native.Mathlib.Omega.{arith}
+use mathlib.Core.Path.{sym, _∙_}
+use Rattle.refusal.proofs.First.{pass, stop, first-end, right-length, wrong-length, good-count}
+use Rattle.net.proofs.Scan.{undamaged}
+use Rattle.growth.specs.Work.{badWork}
+use Rattle.join_refusal.specs.Refused.{joinRefusal}
+use Rattle.growth.proofs.Tests.{damage, over, within}
+use borrow.Author.Needs.{needs}
+use Rattle.join_refusal.proofs.join_refusal.Statement.{statement}
+use Rattle.join_refusal.proofs.join_refusal.Tie as tie
+
+bad-count-requires : tie.Need-bad-count-requires
+bad-count-requires c κs = search needs
+
+returns : tie.Need-returns
+unfolding joinRefusal badWork
+returns c = sym (stop _ _ (sym (c .before .bad-count .ensures) ∙ c .if1 .taken))
+
+bad-count-requires-2 : tie.Need-bad-count-requires-2
+bad-count-requires-2 c κs = search needs
+
+returns-2 : tie.Need-returns-2
+unfolding joinRefusal badWork
+returns-2 c =
+    sym
+    (pass _ _ (sym (c .before .before .before .bad-count .ensures) ∙ c .before .before .if1 .left)
+    ∙ stop _ _ (sym (c .before .bad-count2 .ensures) ∙ c .if2 .taken))
+
+returns-3 : tie.Need-returns-3
+unfolding joinRefusal badWork
+returns-3 c =
+    sym
+    (pass _ _ (sym (c .before .before .before .before .bad-count .ensures) ∙ c .before .before .before .if1 .left)
+    ∙ pass _ _ (sym (c .before .before .bad-count2 .ensures) ∙ c .before .if2 .left)
+    ∙ stop _ _ (wrong-length _ _ (c .if3 .taken)))
+
+returns-4 : tie.Need-returns-4
+unfolding joinRefusal badWork
+returns-4 c =
+    sym
+    (pass _ _ (sym (c .before .before .before .before .before .bad-count .ensures) ∙ c .before .before .before .before .if1 .left)
+    ∙ pass _ _ (sym (c .before .before .before .bad-count2 .ensures) ∙ c .before .before .if2 .left)
+    ∙ pass _ _ (right-length _ _ (c .before .if3 .left))
+    ∙ stop _ _ (wrong-length _ _ (c .if4 .taken)))
+
+add-bad-work : tie.Need-add-bad-work
+add-bad-work c = search needs
+
+bad-work-requires : tie.Need-bad-work-requires
+bad-work-requires c κs = search needs
+
+returns-5 : tie.Need-returns-5
+unfolding joinRefusal badWork
+returns-5 c =
+    sym
+    (pass _ _ (sym (c .before .before .before .before .before .before .before .bad-count .ensures) ∙ c .before .before .before .before .before .before .if1 .left)
+    ∙ pass _ _ (sym (c .before .before .before .before .before .bad-count2 .ensures) ∙ c .before .before .before .before .if2 .left)
+    ∙ pass _ _ (right-length _ _ (c .before .before .before .if3 .left))
+    ∙ pass _ _ (right-length _ _ (c .before .before .if4 .left))
+    ∙ stop _ _ (sym (c .before .bad-work .ensures) ∙ c .if5 .taken))
+
+returns-6 : tie.Need-returns-6
+unfolding joinRefusal badWork
+returns-6 c =
+    sym
+    (pass _ _ (sym (c .before .before .before .before .before .before .before .before .bad-count .ensures) ∙ c .before .before .before .before .before .before .before .if1 .left)
+    ∙ pass _ _ (sym (c .before .before .before .before .before .before .bad-count2 .ensures) ∙ c .before .before .before .before .before .if2 .left)
+    ∙ pass _ _ (right-length _ _ (c .before .before .before .before .if3 .left))
+    ∙ pass _ _ (right-length _ _ (c .before .before .before .if4 .left))
+    ∙ pass _ _ (sym (c .before .before .bad-work .ensures) ∙ c .before .if5 .left)
+    ∙ stop _ _ (wrong-length _ _ (c .if6 .taken)))
+
+of-requires : tie.Need-of-requires
+of-requires c κs = omega (arith, c .before .before .before .before .if3 .left, good-count _ (sym (c .before .before .before .before .before .before .before .before .bad-count .ensures) ∙ c .before .before .before .before .before .before .before .if1 .left) .1)
+
+is-damaged-requires : tie.Need-is-damaged-requires
+is-damaged-requires c κs = good-count _ (sym (c .before .before .before .before .before .before .before .before .before .bad-count .ensures) ∙ c .before .before .before .before .before .before .before .before .if1 .left) .1
+
+returns-7 : tie.Need-returns-7
+unfolding joinRefusal badWork
+returns-7 c =
+    sym
+    (pass _ _ (sym (c .before .before .before .before .before .before .before .before .before .before .before .bad-count .ensures) ∙ c .before .before .before .before .before .before .before .before .before .before .if1 .left)
+    ∙ pass _ _ (sym (c .before .before .before .before .before .before .before .before .before .bad-count2 .ensures) ∙ c .before .before .before .before .before .before .before .before .if2 .left)
+    ∙ pass _ _ (right-length _ _ (c .before .before .before .before .before .before .before .if3 .left))
+    ∙ pass _ _ (right-length _ _ (c .before .before .before .before .before .before .if4 .left))
+    ∙ pass _ _ (sym (c .before .before .before .before .before .bad-work .ensures) ∙ c .before .before .before .before .if5 .left)
+    ∙ pass _ _ (right-length _ _ (c .before .before .before .if6 .left))
+    ∙ stop _ _ (damage _ (c .before .before .of .ensures) (sym (c .before .is-damaged .ensures) ∙ c .if7 .taken)))
+
+of-requires-2 : tie.Need-of-requires-2
+of-requires-2 c κs = omega (arith, c .before .before .before .before .before .before .if4 .left, good-count _ (sym (c .before .before .before .before .before .before .before .before .before .bad-count2 .ensures) ∙ c .before .before .before .before .before .before .before .before .if2 .left) .1)
+
+is-damaged-requires-2 : tie.Need-is-damaged-requires-2
+is-damaged-requires-2 c κs = good-count _ (sym (c .before .before .before .before .before .before .before .before .before .before .bad-count2 .ensures) ∙ c .before .before .before .before .before .before .before .before .before .if2 .left) .1
+
+returns-8 : tie.Need-returns-8
+unfolding joinRefusal badWork
+returns-8 c =
+    sym
+    (pass _ _ (sym (c .before .before .before .before .before .before .before .before .before .before .before .before .before .before .bad-count .ensures) ∙ c .before .before .before .before .before .before .before .before .before .before .before .before .before .if1 .left)
+    ∙ pass _ _ (sym (c .before .before .before .before .before .before .before .before .before .before .before .before .bad-count2 .ensures) ∙ c .before .before .before .before .before .before .before .before .before .before .before .if2 .left)
+    ∙ pass _ _ (right-length _ _ (c .before .before .before .before .before .before .before .before .before .before .if3 .left))
+    ∙ pass _ _ (right-length _ _ (c .before .before .before .before .before .before .before .before .before .if4 .left))
+    ∙ pass _ _ (sym (c .before .before .before .before .before .before .before .before .bad-work .ensures) ∙ c .before .before .before .before .before .before .before .if5 .left)
+    ∙ pass _ _ (right-length _ _ (c .before .before .before .before .before .before .if6 .left))
+    ∙ pass _ _ (damage _ (c .before .before .before .before .before .of .ensures) (sym (c .before .before .before .before .is-damaged .ensures) ∙ c .before .before .before .if7 .left))
+    ∙ stop _ _ (damage _ (c .before .before .of2 .ensures) (sym (c .before .is-damaged2 .ensures) ∙ c .if8 .taken)))
+
+add-if9 : tie.Need-add-if9
+add-if9 c = omega (arith, undamaged _ _ (sym (c .before .before .before .before .before .before .is-damaged .ensures) ∙ c .before .before .before .before .before .if7 .left) .1, undamaged _ _ (sym (c .before .before .before .is-damaged2 .ensures) ∙ c .before .before .if8 .left) .1)
+
+returns-9 : tie.Need-returns-9
+unfolding joinRefusal badWork
+returns-9 c =
+    sym
+    (pass _ _ (sym (c .before .before .before .before .before .before .before .before .before .before .before .before .before .before .before .before .before .bad-count .ensures) ∙ c .before .before .before .before .before .before .before .before .before .before .before .before .before .before .before .before .if1 .left)
+    ∙ pass _ _ (sym (c .before .before .before .before .before .before .before .before .before .before .before .before .before .before .before .bad-count2 .ensures) ∙ c .before .before .before .before .before .before .before .before .before .before .before .before .before .before .if2 .left)
+    ∙ pass _ _ (right-length _ _ (c .before .before .before .before .before .before .before .before .before .before .before .before .before .if3 .left))
+    ∙ pass _ _ (right-length _ _ (c .before .before .before .before .before .before .before .before .before .before .before .before .if4 .left))
+    ∙ pass _ _ (sym (c .before .before .before .before .before .before .before .before .before .before .before .bad-work .ensures) ∙ c .before .before .before .before .before .before .before .before .before .before .if5 .left)
+    ∙ pass _ _ (right-length _ _ (c .before .before .before .before .before .before .before .before .before .if6 .left))
+    ∙ pass _ _ (damage _ (c .before .before .before .before .before .before .before .before .of .ensures) (sym (c .before .before .before .before .before .before .before .is-damaged .ensures) ∙ c .before .before .before .before .before .before .if7 .left))
+    ∙ pass _ _ (damage _ (c .before .before .before .before .before .of2 .ensures) (sym (c .before .before .before .before .is-damaged2 .ensures) ∙ c .before .before .before .if8 .left))
+    ∙ stop _ _ (over (c .before .before .before .before .before .before .before .before .of .ensures) (c .before .before .before .before .before .of2 .ensures) (c .if9 .taken)))
+
+returns-10 : tie.Need-returns-10
+unfolding joinRefusal badWork
+returns-10 c =
+    sym
+    (pass _ _ (sym (c .before .before .before .before .before .before .before .before .before .before .before .before .before .before .before .before .before .bad-count .ensures) ∙ c .before .before .before .before .before .before .before .before .before .before .before .before .before .before .before .before .if1 .left)
+    ∙ pass _ _ (sym (c .before .before .before .before .before .before .before .before .before .before .before .before .before .before .before .bad-count2 .ensures) ∙ c .before .before .before .before .before .before .before .before .before .before .before .before .before .before .if2 .left)
+    ∙ pass _ _ (right-length _ _ (c .before .before .before .before .before .before .before .before .before .before .before .before .before .if3 .left))
+    ∙ pass _ _ (right-length _ _ (c .before .before .before .before .before .before .before .before .before .before .before .before .if4 .left))
+    ∙ pass _ _ (sym (c .before .before .before .before .before .before .before .before .before .before .before .bad-work .ensures) ∙ c .before .before .before .before .before .before .before .before .before .before .if5 .left)
+    ∙ pass _ _ (right-length _ _ (c .before .before .before .before .before .before .before .before .before .if6 .left))
+    ∙ pass _ _ (damage _ (c .before .before .before .before .before .before .before .before .of .ensures) (sym (c .before .before .before .before .before .before .before .is-damaged .ensures) ∙ c .before .before .before .before .before .before .if7 .left))
+    ∙ pass _ _ (damage _ (c .before .before .before .before .before .of2 .ensures) (sym (c .before .before .before .before .is-damaged2 .ensures) ∙ c .before .before .before .if8 .left))
+    ∙ pass _ _ (within (c .before .before .before .before .before .before .before .before .of .ensures) (c .before .before .before .before .before .of2 .ensures) (c .if9 .left))
+    ∙ first-end)
+
+pub join-refusal-spec : {M : Type 1} → statement M
+join-refusal-spec =
+    tie.close
+    (tie.spec
+    bad-count-requires
+    returns
+    bad-count-requires-2
+    returns-2
+    returns-3
+    returns-4
+    add-bad-work
+    bad-work-requires
+    returns-5
+    returns-6
+    of-requires
+    is-damaged-requires
+    returns-7
+    of-requires-2
+    is-damaged-requires-2
+    returns-8
+    add-if9
+    returns-9
+    returns-10)

@@ -1,2 +1,0 @@
--- Laws of the limits of a division. Nothing here needs to be believed: it is all proved.
-pub mod DivisionLimits

@@ -1,2 +1,0 @@
--- The limits of a division.
-pub mod DivisionLimits

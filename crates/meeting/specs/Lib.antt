@@ -1,5 +1,0 @@
--- The blocks that a vertex meets, and how many of its edges their count takes.
-pub mod BlockCount
-pub mod Taken
-pub mod Example
-pub mod Steps

@@ -1,0 +1,6 @@
+-- Where a forest moved.
+pub mod Answer
+pub mod Example
+pub mod Followed
+pub mod Moved
+pub mod Steps

@@ -1,0 +1,4 @@
+-- Orders and their inverses, and the two means of going by one.
+pub mod LookUp
+pub mod Order
+pub mod VertexSet

@@ -1,3 +1,0 @@
--- How groups are packed into blocks.
-pub mod Pack
-pub mod Steps

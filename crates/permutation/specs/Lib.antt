@@ -1,4 +1,0 @@
--- Orders and their inverses, and the two means of going by one.
-pub mod Order
-pub mod VertexSet
-pub mod LookUp

@@ -1,2 +1,0 @@
--- What putting edges in promises.
-pub mod Putting

@@ -1,2 +1,0 @@
--- The run of a vertex, looked up in an index.
-pub mod Query

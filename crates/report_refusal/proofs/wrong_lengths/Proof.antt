@@ -1,0 +1,35 @@
+use borrow.Author.Needs.{needs}
+use Rattle.report_refusal.proofs.Told.{wrong-told}
+use Rattle.report_refusal.proofs.wrong_lengths.Statement.{statement}
+use Rattle.report_refusal.proofs.wrong_lengths.Tie as tie
+
+wide-requires : tie.Need-wide-requires
+wide-requires c κs = search needs
+
+wrong-tables-requires : tie.Need-wrong-tables-requires
+wrong-tables-requires c κs = search needs
+
+wrong-figures-requires : tie.Need-wrong-figures-requires
+wrong-figures-requires c κs = search needs
+
+add-wrong-compared : tie.Need-add-wrong-compared
+add-wrong-compared c = search needs
+
+wrong-compared-requires : tie.Need-wrong-compared-requires
+wrong-compared-requires c κs = search needs
+
+returns : tie.Need-returns
+returns c =
+    let a = c .before .before .before .before .before .before .before .args in
+    wrong-told (a .parents .now) (a .weights .now) (a .edges .now) (a .carried) (a .top) (a .block) (a .block-loads) (a .edge-blocks) (a .reach) (a .block-count) (a .edges-taken) (a .compared-parents) (a .compared-weights) (a .ends) (a .jump) (a .lower) _ (c .before .before .before .wide .ensures) (c .before .before .wrong-tables .ensures) (c .before .wrong-figures .ensures) (c .wrong-compared .ensures)
+
+pub wrong-lengths-spec : {M : Type 1} → statement M
+wrong-lengths-spec =
+    tie.close
+    (tie.spec
+    wide-requires
+    wrong-tables-requires
+    wrong-figures-requires
+    add-wrong-compared
+    wrong-compared-requires
+    returns)

@@ -1,0 +1,3 @@
+-- The early refusals of a report.
+pub mod Refused
+pub mod Steps

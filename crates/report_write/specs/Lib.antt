@@ -1,0 +1,3 @@
+-- What a report writes of a net.
+pub mod Steps
+pub mod Written

@@ -1,4 +1,0 @@
-// Saving a net as a link file.
-mod saving;
-
-pub use saving::save;

@@ -1,4 +1,0 @@
--- What lies between two vertices.
-pub mod Separate
-pub mod Separates
-pub mod Example

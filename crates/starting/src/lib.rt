@@ -1,4 +1,0 @@
-// Starting a net.
-mod starting;
-
-pub use starting::start;

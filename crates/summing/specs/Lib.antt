@@ -1,2 +1,0 @@
--- Sums over the tables of a report.
-pub mod Steps

@@ -1,2 +1,0 @@
--- Laws of the sweep. Nothing here needs to be believed: it is all proved.
-pub mod Sweep

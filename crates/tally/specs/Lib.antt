@@ -1,2 +1,0 @@
--- What counting promises.
-pub mod Steps

@@ -1,4 +1,0 @@
--- Laws of waiting. Nothing here needs to be believed: it is all proved.
-pub mod Coming
-pub mod Passing
-pub mod Sweep

@@ -1,2 +1,0 @@
--- What vertices wait for until their count ends.
-pub mod Steps
