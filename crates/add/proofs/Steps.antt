@@ -16,7 +16,7 @@ use Rattle.bucket.specs.PlacingSteps.{upperCounts}
 use Rattle.growth.specs.Work.{NetWithWork, withWork, workOf}
 use Rattle.rising.proofs.Rising.{rises-faultless}
 use Rattle.add_refusal.specs.Refused.{addRefusal}
-use Rattle.add_refusal.specs.Steps.{listRefusal, ByList, ListRead}
+use Rattle.add_refusal.specs.Steps.{addListRefusal, ByList, ListRead}
 use Rattle.add_refusal.proofs.Steps.{faults-decide}
 use Rattle.add.specs.Add.{addOutcome}
 use Rattle.add.specs.Steps.{RisingFirst}
@@ -28,7 +28,7 @@ counted-light long heavy t = not-true heavy (and-both long (not heavy) t .1)
 module _ {g : NetWithWork} {xs : List ℕ} {heavy counted : Bool} {ends′ : List ℕ} {r : ℕ} (o : ByList g xs heavy) (l : ListRead xs heavy counted (g .work .ends) ends′ r) where
   -- what the list decides is what the call is refused for
   pub list-decides : r ≡ addRefusal g xs
-  list-decides = l .refusal ∙ ap (λ (n : ℕ). listRefusal n xs heavy) (o .ends) ∙ sym (o .refusal)
+  list-decides = l .refusal ∙ ap (λ (n : ℕ). addListRefusal n xs heavy) (o .ends) ∙ sym (o .refusal)
 
   pub list-refused : (r ≡ 0 → ⊥) → ended (refused r) (withWork (g .net) (workOf ends′ (g .work .jump) (g .work .lower))) ≡ addOutcome g xs
   unfolding addOutcome

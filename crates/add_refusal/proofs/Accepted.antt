@@ -9,7 +9,7 @@ use borrow.Author.Tests.{ltb-false}
 use Rattle.game.specs.Edge.{edges}
 use Rattle.game.specs.Net.{total, charges}
 use Rattle.refusal.specs.Limits.{maxTotal}
-use Rattle.refusal.specs.Refusal.{firstFault, odd}
+use Rattle.refusal.specs.Refusal.{firstFault, notWhole}
 use Rattle.refusal.proofs.First.{first-none, given-none}
 use Rattle.growth.specs.Work.{NetWithWork}
 use Rattle.add_refusal.specs.Refused.{addRefusal}
@@ -18,7 +18,7 @@ use Rattle.growth.proofs.Whole.{Whole, Room, whole, room}
 pub record Addable (g : NetWithWork) (xs : List ℕ) : Type 0 where
   pub net : Whole (g .net)
   pub work : Room (length (g .net .parents)) (length (g .net .parents) + length (edges xs)) (g .work)
-  pub even : odd xs ≡ false
+  pub even : notWhole xs ≡ false
   pub faultless : firstFault (length (g .net .parents)) (edges xs) ≡ 0
   pub light : total (g .net) + charges (edges xs) ≤ maxTotal
 

@@ -18,7 +18,7 @@ use Rattle.bucket.specs.CountingSteps.{CountsUpper}
 use Rattle.growth.specs.Work.{NetWithWork, badWork}
 use Rattle.growth.proofs.Rooms.{good-work}
 use Rattle.add_refusal.specs.Refused.{addRefusal}
-use Rattle.add_refusal.specs.Steps.{listRefusal, TablesRead, ListRead}
+use Rattle.add_refusal.specs.Steps.{addListRefusal, TablesRead, ListRead}
 
 -- the tables refuse the call, by a number that is not 0
 pub tables-refused : (g : NetWithWork) (xs : List ℕ) (k : ℕ) {heavy : Bool} → addRefusal g xs ≡ suc k → TablesRead g xs (suc k) heavy
@@ -26,14 +26,14 @@ tables-refused g xs k e = record { refused = λ h. sym e; passed = λ z. absurd 
 
 -- or they are right
 pub tables-right : (g : NetWithWork) (xs : List ℕ) {heavy : Bool} → badWork (length (g .net .parents)) (length (g .net .parents) + length (edges xs)) (g .work) ≡ false
-    → addRefusal g xs ≡ listRefusal (length (g .net .parents)) xs heavy → (heavy ≡ false → length (edges xs) ≤ maxTotal) → TablesRead g xs 0 heavy
+    → addRefusal g xs ≡ addListRefusal (length (g .net .parents)) xs heavy → (heavy ≡ false → length (edges xs) ≤ maxTotal) → TablesRead g xs 0 heavy
 tables-right g xs w e f =
     record { refused = λ h. absurd (h refl); passed = λ z. record { refusal = e; ends = good-work _ _ (g .work) w .0; few = f } }
 
 -- too heavy, by the total that the code has summed and by half the list's length
-pub heavy-told : (n : ℕ) (xs : List ℕ) {sum all : ℕ} → sum ≡ all → first (firstFault n (edges xs) ∷ given (ltb maxTotal (all + charges (edges xs))) 20 ∷ []) ≡ listRefusal n xs (ltb maxTotal (sum + length xs / 2))
+pub heavy-told : (n : ℕ) (xs : List ℕ) {sum all : ℕ} → sum ≡ all → first (firstFault n (edges xs) ∷ given (ltb maxTotal (all + charges (edges xs))) 20 ∷ []) ≡ addListRefusal n xs (ltb maxTotal (sum + length xs / 2))
 heavy-told n xs e =
-    ap (listRefusal n xs) (ap₂ (λ (a b : ℕ). ltb maxTotal (a + b)) (sym e) (charges-count (edges xs) ∙ edges-length xs))
+    ap (addListRefusal n xs) (ap₂ (λ (a b : ℕ). ltb maxTotal (a + b)) (sym e) (charges-count (edges xs) ∙ edges-length xs))
 
 pub light-few : (sum : ℕ) (xs : List ℕ) → ltb maxTotal (sum + length xs / 2) ≡ false → length (edges xs) ≤ maxTotal
 light-few sum xs e = omega (arith, ltb-false maxTotal (sum + length xs / 2) e, edges-length xs)
@@ -49,5 +49,5 @@ counted-read {xs} {ends = ends} light c =
     record { refusal = c .fault ∙ sym (faults-decide (firstFault (length ends) (edges xs)) light); counts = λ t z. c .counted z; kept = c .kept }
 
 -- one that is only read leaves the table as it was
-pub list-read : {xs : List ℕ} {heavy counted : Bool} {ends : List ℕ} {r : ℕ} → counted ≡ false → r ≡ listRefusal (length ends) xs heavy → ListRead xs heavy counted ends ends r
+pub list-read : {xs : List ℕ} {heavy counted : Bool} {ends : List ℕ} {r : ℕ} → counted ≡ false → r ≡ addListRefusal (length ends) xs heavy → ListRead xs heavy counted ends ends r
 list-read left e = record { refusal = e; counts = λ t z. absurd (true≢false (sym t ∙ left)); kept = λ h. refl }

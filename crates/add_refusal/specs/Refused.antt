@@ -10,7 +10,7 @@ use lib.ListN.{length}
 use Rattle.game.specs.Edge.{edges}
 use Rattle.game.specs.Net.{total, charges}
 use Rattle.refusal.specs.Limits.{maxTotal}
-use Rattle.refusal.specs.Refusal.{given, first, badCount, wrongLength, odd, firstFault}
+use Rattle.refusal.specs.Refusal.{given, first, badCount, wrongLength, notWhole, firstFault}
 use Rattle.net.specs.Damage.{damaged}
 use Rattle.growth.specs.Work.{NetWithWork, badWork}
 
@@ -21,7 +21,7 @@ addRefusal g xs =
     first
     (given (badCount n) 1
     ∷ given (wrongLength (length (g .net .weights)) n) 2
-    ∷ given (odd xs) 2
+    ∷ given (notWhole xs) 2
     ∷ given (badWork n (n + length (edges xs)) (g .work)) 2
     ∷ given (damaged (g .net)) 30
     ∷ firstFault n (edges xs)

@@ -13,12 +13,12 @@ use Rattle.growth.specs.Work.{NetWithWork}
 use Rattle.add_refusal.specs.Refused.{addRefusal}
 
 -- the last tests of adding: the list's faults, and whether it is too heavy
-abbrev pub listRefusal : ℕ → List ℕ → Bool → ℕ
-listRefusal n xs heavy = first (firstFault n (edges xs) ∷ given heavy 20 ∷ [])
+abbrev pub addListRefusal : ℕ → List ℕ → Bool → ℕ
+addListRefusal n xs heavy = first (firstFault n (edges xs) ∷ given heavy 20 ∷ [])
 
 -- the tables are right, so the list decides
 pub record ByList (g : NetWithWork) (xs : List ℕ) (heavy : Bool) : Type 0 where
-  pub refusal : addRefusal g xs ≡ listRefusal (length (g .net .parents)) xs heavy
+  pub refusal : addRefusal g xs ≡ addListRefusal (length (g .net .parents)) xs heavy
   pub ends : length (g .work .ends) ≡ length (g .net .parents)
   pub few : heavy ≡ false → length (edges xs) ≤ maxTotal
 
@@ -29,6 +29,6 @@ pub record TablesRead (g : NetWithWork) (xs : List ℕ) (code : ℕ) (heavy : Bo
 
 -- reading the list decides, and counts its edges by upper end where it is not refused and they are to be counted
 pub record ListRead (xs : List ℕ) (heavy counted : Bool) (ends ends′ : List ℕ) (code : ℕ) : Type 0 where
-  pub refusal : code ≡ listRefusal (length ends) xs heavy
+  pub refusal : code ≡ addListRefusal (length ends) xs heavy
   pub counts : counted ≡ true → code ≡ 0 → ends′ ≡ upperCounts (length ends) (edges xs)
   pub kept : (code ≡ 0 → ⊥) → ends′ ≡ ends

@@ -20,7 +20,7 @@ use Rattle.game.proofs.Ancestors.{climbs-ancestor, ancestor-climbs, under-climb
 use Rattle.game.proofs.Subtree.{climbs-trans, climbs-antisym, climbs-inside}
 use Rattle.game.proofs.Paths.{ancestors-rising}
 use Rattle.ancestry.specs.Common.{commonAncestors, related}
-use Rattle.ancestry.specs.Steps.{Walkable, path, Meets}
+use Rattle.ancestry.specs.Steps.{Walkable, path, FirstCommon}
 use Rattle.ancestry.proofs.Walk.{walkable-sound, walkable-few}
 use Rattle.ancestry.proofs.Paths.{path-rising, climbs-path, path-climbs}
 
@@ -60,7 +60,7 @@ climbs-common {p} w a b apart {y} i j =
     (climbs-ancestor (walkable-sound w) i (λ (e : a ≡ y). true≢false (sym (climbs-related w (rw (← e) at j)) ∙ apart)))
     (climbs-ancestor (walkable-sound w) j (λ (e : b ≡ y). true≢false (sym (climbed-related w (rw (← e) at i)) ∙ apart)))
 
-module _ {p : List ℕ} (w : Walkable p) {a b r : ℕ} (m : Meets p a b r) (ha : a < length p) (hb : b < length p) where
+module _ {p : List ℕ} (w : Walkable p) {a b r : ℕ} (m : FirstCommon p a b r) (ha : a < length p) (hb : b < length p) where
   -- a vertex is not absent
   there : {x : ℕ} → x < length p → x ≢ absent
   there h = omega (arith, w .few)

@@ -17,13 +17,13 @@ use Rattle.refusal.proofs.Ends.{judged-accepted, judged-refused}
 use Rattle.ancestry.specs.declared.Separator.{Separator}
 use Rattle.ancestry.specs.Common.{related, atFront}
 use Rattle.ancestry.specs.Answer.{separator, lowestOf, separatorOf}
-use Rattle.ancestry.specs.Steps.{Walkable, path, Meets, lowestAt, listOutcome}
+use Rattle.ancestry.specs.Steps.{Walkable, path, FirstCommon, lowestAt, listOutcome}
 use Rattle.ancestry.proofs.Walk.{walkable-few}
 use Rattle.ancestry.proofs.Paths.{path-in, path-out}
 use Rattle.ancestry.proofs.Common.{related-at, common-path}
 use Rattle.ancestry.proofs.Written.{lowest-none, lowest-some}
 
-module _ {p : List ℕ} (w : Walkable p) {a b r : ℕ} (m : Meets p a b r) (ha : a < length p) (hb : b < length p) (was : List ℕ) where
+module _ {p : List ℕ} (w : Walkable p) {a b r : ℕ} (m : FirstCommon p a b r) (ha : a < length p) (hb : b < length p) (was : List ℕ) where
   pub lists-not : (eqb r a || eqb r b) ≡ true → ended (refused 31) was ≡ listOutcome p a b was
   unfolding listOutcome
   lists-not t =

@@ -13,7 +13,7 @@ use Rattle.game.proofs.Sound.{Sound, sound-true, sound-parent, getD-default}
 use Rattle.game.proofs.Links.{link-of}
 use Rattle.game.proofs.Climbs.{Climbs, top, up, climbs-le}
 use Rattle.game.proofs.Subtree.{climbs-trans, climbs-rest}
-use Rattle.ancestry.specs.Steps.{Walkable, Meets}
+use Rattle.ancestry.specs.Steps.{Walkable, FirstCommon}
 
 -- a sound table, as the laws of forests take it
 pub walkable-sound : {p : List ℕ} → Walkable p → Sound p
@@ -125,7 +125,7 @@ module _ {p : List ℕ} (w : Walkable p) where
         less : (z : ℕ) {x y s : ℕ} → x < y → y + z ≡ s → x + z < s
         less z h e = omega arith
 
-  walk-end : {one other a b : ℕ} → Walking p one other a b → a ≡ b → Meets p one other a
+  walk-end : {one other a b : ℕ} → Walking p one other a b → a ≡ b → FirstCommon p one other a
   walk-end {one} {other} {a} {b} t e =
       record {
         inside = λ d. reached-in (t .left) d .0;
@@ -133,7 +133,7 @@ module _ {p : List ℕ} (w : Walkable p) where
         least = λ z i j. t .least z i j .0;
       }
 
-  pub walks-end : {one other a b : ℕ} → Walks p one other a b → a ≡ b → Meets p one other a
+  pub walks-end : {one other a b : ℕ} → Walks p one other a b → a ≡ b → FirstCommon p one other a
   walks-end (inl t) e = walk-end t e
   walks-end (inr t) e =
       let m = walk-end t e in

@@ -30,7 +30,7 @@ unfoldable pub path : List ℕ → ℕ → List ℕ
 path p x = cond (ltb x (length p)) (x ∷ ancestors p x) []
 
 -- r is the lowest vertex that both a and b climb to, themselves included; absent, if there is none
-pub record Meets (p : List ℕ) (a b r : ℕ) : Type 0 where
+pub record FirstCommon (p : List ℕ) (a b r : ℕ) : Type 0 where
   pub inside : r ≢ absent → r < length p
   pub both : r ≢ absent → Climbs p r a × Climbs p r b
   pub least : (z : ℕ) → Climbs p z a → Climbs p z b → Climbs p z r

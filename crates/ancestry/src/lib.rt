@@ -9,7 +9,7 @@ ghost use Rattle.game.specs.Game.{absent};
 ghost use Rattle.refusal.specs.Outcome.{ended};
 ghost use Rattle.ancestry.specs.Common.{atFront};
 ghost use Rattle.ancestry.specs.Answer.{verdict, separator, lowestRank};
-ghost use Rattle.ancestry.specs.Steps.{Walkable, path, Meets, lowestAt, listOutcome};
+ghost use Rattle.ancestry.specs.Steps.{Walkable, path, FirstCommon, lowestAt, listOutcome};
 
 // The lowest of the vertices above both, or nothing: there is none.
 pub enum Lowest {
@@ -34,13 +34,13 @@ pub enum SeparatorAnswer {
 // which of two paths is the lower.
 fn lowest_common(parents: &[u32], one: u32, other: u32) -> u32
     requires { ⌜ Walkable (now parents) × (one < length (now parents)) × (other < length (now parents)) ⌝ }
-    ensures { λ r. ⌜ Meets (now (parents .entry)) one other r ⌝ }
+    ensures { λ r. ⌜ FirstCommon (now (parents .entry)) one other r ⌝ }
 {
     let mut a = one;
     let mut b = other;
     while a != b {
-        let low = moved::lower(a, b);
-        b = moved::higher(a, b);
+        let low = table::smaller(a, b);
+        b = table::larger(a, b);
         a = parents[low as usize];
     }
     a
@@ -92,7 +92,7 @@ pub fn list_common(parents: &[u32], one: u32, other: u32, table: &mut [u32]) -> 
 }
 
 // The lowest as one number: absent for none.
-pub fn rank(lowest: Lowest) -> u32
+pub fn lowest_rank(lowest: Lowest) -> u32
     ensures { λ r. ⌜ r ≡ lowestRank lowest ⌝ }
 {
     match lowest {

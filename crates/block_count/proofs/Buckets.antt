@@ -12,7 +12,7 @@ use lib.Seq.{length-take-le, getD-drop, getD-take, getD-set-same, getD-set-other
 use Rattle.refusal.specs.Limits.{maxEdges}
 use Rattle.sorting.specs.Sorted.{begin, bucketOf}
 use Rattle.block_count.specs.declared.counting.Met.{Met}
-use Rattle.block_count.specs.CountingSteps.{Fresh, Meets, Counts, known, knownAt, CountedAt, Bucketed, Counted}
+use Rattle.block_count.specs.CountingSteps.{Fresh, CountableAt, Counts, known, knownAt, CountedAt, Bucketed, Counted}
 
 -- a part of a table, from one place up to another
 abbrev part : ℕ → ℕ → List ℕ → List ℕ
@@ -60,7 +60,7 @@ module _ {ends lower upward block : List ℕ} {k : ℕ} {counts₀ taken₀ pend
     pub turn-short : end - at ≤ maxEdges
     turn-short = omega (arith, b .short y h)
 
-    pub turn-meets : Meets y k (part at end lower) block stamps
+    pub turn-meets : CountableAt y k (part at end lower) block stamps
     turn-meets = record {
       inside = omega (arith, b .blocked);
       few = omega (arith, b .blocked, b .buckets .few);

@@ -1,4 +1,5 @@
 -- Laws of the count of blocks and of waiting, by subject. Nothing here needs to be believed: it is all proved.
+pub mod AnyOrder
 pub mod Blocks
 pub mod Buckets
 pub mod Coming

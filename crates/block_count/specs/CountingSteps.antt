@@ -39,7 +39,7 @@ pub record Stamped (stamps : List ℕ) (stamp : ℕ) (bs : List ℕ) (r : ℕ) :
   pub counted : r ≡ different (length stamps) bs
 
 -- what counting at y is given: its lower neighbours, the block of each vertex, and a stamp for each block, all of them older
-pub record Meets (y k : ℕ) (lower block stamps : List ℕ) : Type 0 where
+pub record CountableAt (y k : ℕ) (lower block stamps : List ℕ) : Type 0 where
   pub inside : y < length block
   pub few : length block ≤ maxVertices
   pub neighbours : (i : ℕ) → i < length lower → getD lower i 0 < length block

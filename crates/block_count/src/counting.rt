@@ -7,7 +7,7 @@ use table::wide;
 ghost use mathlib.Core.Path.{_≡_};
 ghost use Prim.Native.Nat.{_+_, _≤_};
 ghost use Rattle.refusal.specs.Limits.{maxEdges};
-ghost use Rattle.block_count.specs.CountingSteps.{Meets, Counts, knownAt, Bucketed, Counted};
+ghost use Rattle.block_count.specs.CountingSteps.{CountableAt, Counts, knownAt, Bucketed, Counted};
 
 // What the count at a vertex found: how many different blocks, and how many of its lower neighbours it read.
 struct Met {
@@ -24,7 +24,7 @@ struct Known {
 // Counts the different blocks that vertex y meets, by how many of its edges lead up and by its lower neighbours, and ends as soon as it has
 // met them all. If an edge leads up the own block is met first, wherever that edge stands in the list.
 fn count_at(y: u32, up: u32, lower: &[u32], block: &[u32], all: u32, stamps: &mut [u32]) -> Met
-    requires { ⌜ Meets y all (now lower) (now block) (now stamps) ⌝ }
+    requires { ⌜ CountableAt y all (now lower) (now block) (now stamps) ⌝ }
     ensures { λ r. ⌜ Counts all (now (block .entry)) y up (now (lower .entry)) (now (stamps .exit)) r ⌝ }
 {
     let stamp = y + 1;

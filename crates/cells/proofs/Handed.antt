@@ -6,7 +6,7 @@ use Rattle.refusal.specs.Verdict.{number}
 use Rattle.moved.specs.declared.Moved.{Moved}
 use Rattle.moved.specs.declared.GrowthAnswer.{GrowthAnswer}
 use Rattle.moved.specs.declared.GrowthAnswer.the-variants as growth
-use Rattle.moved.specs.Moved.{rankOf}
+use Rattle.moved.specs.Moved.{movedRank}
 use Rattle.moved.specs.Answer.{verdict as growthVerdict}
 use Rattle.cost.specs.declared.Totals.{Totals}
 use Rattle.cost.specs.declared.ReportAnswer.{ReportAnswer}
@@ -20,11 +20,11 @@ use Rattle.cells.specs.Returned.{told, TotalsCells, cells, cellsOf, Sepa
 
 -- where a forest moved
 module _ (was : ℕ) {answer : GrowthAnswer} where
-  pub rank-accepted : {its : Moved} {k : ℕ} → answer ≡ growth.Accepted its → k ≡ rankOf its → (0 ≡ number (growthVerdict answer)) × (k ≡ told rankOf (growthVerdict answer) was)
+  pub rank-accepted : {its : Moved} {k : ℕ} → answer ≡ growth.Accepted its → k ≡ movedRank its → (0 ≡ number (growthVerdict answer)) × (k ≡ told movedRank (growthVerdict answer) was)
   unfolding growthVerdict number told
   rank-accepted e r = rw e (refl, r)
 
-  pub rank-refused : {k : ℕ} → answer ≡ growth.Refused k → (k ≡ number (growthVerdict answer)) × (was ≡ told rankOf (growthVerdict answer) was)
+  pub rank-refused : {k : ℕ} → answer ≡ growth.Refused k → (k ≡ number (growthVerdict answer)) × (was ≡ told movedRank (growthVerdict answer) was)
   unfolding growthVerdict number told
   rank-refused e = rw e (refl, refl)
 

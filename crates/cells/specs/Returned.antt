@@ -6,7 +6,7 @@ use Prim.Native.Nat.{ℕ}
 use Rattle.refusal.specs.Verdict.{Verdict, accepted, refused, number}
 use Rattle.refusal.specs.Outcome.{Outcome, Done}
 use Rattle.moved.specs.declared.Moved.{Moved}
-use Rattle.moved.specs.Moved.{rankOf}
+use Rattle.moved.specs.Moved.{movedRank}
 use Rattle.cost.specs.declared.Totals.{Totals}
 use Rattle.ancestry.specs.declared.Separator.{Separator}
 use Rattle.ancestry.specs.Answer.{lowestRank}
@@ -23,13 +23,13 @@ unfoldable pub handed : {A : Type 0} → Done A → Returned A
 handed o = returned (number (o .verdict)) (o .tables)
 
 -- the same with the cells for the values of an accepted call
-pub record Filled (C A : Type 0) : Type 0 where
+pub record FilledCells (C A : Type 0) : Type 0 where
   pub number : ℕ
   pub cells : C
   pub tables : A
 
-abbrev pub filled : {C A : Type 0} → ℕ → C → A → Filled C A
-filled k c t = record { number = k; cells = c; tables = t }
+abbrev pub filledCells : {C A : Type 0} → ℕ → C → A → FilledCells C A
+filledCells k c t = record { number = k; cells = c; tables = t }
 
 -- the cells after a verdict, by how they hold its values
 unfoldable pub told : {X C : Type 0} → (X → C) → Verdict X → C → C
@@ -60,16 +60,16 @@ separatorCells c l = record { count = c; lowest = l }
 unfoldable pub separatorCellsOf : Separator → SeparatorCells
 separatorCellsOf s = separatorCells (s .count) (lowestRank (s .lowest))
 
-unfoldable pub handedCells : {X C A : Type 0} → (X → C) → C → Outcome X A → Filled C A
-handedCells hold was o = filled (number (o .verdict)) (told hold (o .verdict) was) (o .tables)
+unfoldable pub handedCells : {X C A : Type 0} → (X → C) → C → Outcome X A → FilledCells C A
+handedCells hold was o = filledCells (number (o .verdict)) (told hold (o .verdict) was) (o .tables)
 
--- the four cells of a report hold its totals; the cell of an addition or a join holds a rank, `rankOf` where the forest moved; the two of a
+-- the four cells of a report hold its totals; the cell of an addition or a join holds a rank, `movedRank` where the forest moved; the two of a
 -- separator how many it has and a rank, `lowestRank` of its lowest
-abbrev pub handedTotals : {A : Type 0} → TotalsCells → Outcome Totals A → Filled TotalsCells A
+abbrev pub handedTotals : {A : Type 0} → TotalsCells → Outcome Totals A → FilledCells TotalsCells A
 handedTotals was o = handedCells cellsOf was o
 
-abbrev pub handedRank : {A : Type 0} → ℕ → Outcome Moved A → Filled ℕ A
-handedRank was o = handedCells rankOf was o
+abbrev pub handedRank : {A : Type 0} → ℕ → Outcome Moved A → FilledCells ℕ A
+handedRank was o = handedCells movedRank was o
 
-abbrev pub handedSeparator : {A : Type 0} → SeparatorCells → Outcome Separator A → Filled SeparatorCells A
+abbrev pub handedSeparator : {A : Type 0} → SeparatorCells → Outcome Separator A → FilledCells SeparatorCells A
 handedSeparator was o = handedCells separatorCellsOf was o

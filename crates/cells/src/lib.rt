@@ -6,20 +6,20 @@ use moved::GrowthAnswer;
 use query::Place;
 ghost use mathlib.Core.Path.{_≡_};
 ghost use Rattle.refusal.specs.Verdict.{number};
-ghost use Rattle.moved.specs.Moved.{rankOf};
+ghost use Rattle.moved.specs.Moved.{movedRank};
 ghost use Rattle.moved.specs.Answer.{verdict as growthVerdict};
 ghost use Rattle.cost.specs.Answer.{verdict as reportVerdict};
-ghost use Rattle.query.specs.Query.{place};
+ghost use Rattle.query.specs.Query.{placeOf};
 ghost use Rattle.ancestry.specs.Answer.{verdict as separatorVerdict};
 ghost use Rattle.cells.specs.Returned.{told, cells, cellsOf, separatorCells, separatorCellsOf};
 
 // Hands over where a forest moved, as a rank.
 pub fn hand_rank(answer: GrowthAnswer, moved: &mut u32) -> u32
-    ensures { λ r. ⌜ (r ≡ number (growthVerdict answer)) × (now (moved .exit) ≡ told rankOf (growthVerdict answer) (now (moved .entry))) ⌝ }
+    ensures { λ r. ⌜ (r ≡ number (growthVerdict answer)) × (now (moved .exit) ≡ told movedRank (growthVerdict answer) (now (moved .entry))) ⌝ }
 {
     match answer {
         GrowthAnswer::Accepted(its) => {
-            *moved = moved::rank(its);
+            *moved = moved::moved_rank(its);
             0
         }
         GrowthAnswer::Refused(number) => number,
@@ -54,7 +54,7 @@ pub fn hand_totals(
 
 // Hands over the place of a part of an index. Refused, it is an empty part at the front.
 pub fn hand_place(part: Place, first: &mut u64, count: &mut u64) -> u32
-    ensures { λ r. ⌜ place r (now (first .exit)) (now (count .exit)) ≡ part ⌝ }
+    ensures { λ r. ⌜ placeOf r (now (first .exit)) (now (count .exit)) ≡ part ⌝ }
 {
     *first = table::amount(part.first);
     *count = table::amount(part.count);
@@ -71,7 +71,7 @@ pub fn hand_separator(answer: SeparatorAnswer, count: &mut u32, lowest: &mut u32
         SeparatorAnswer::Accepted(its) => {
             let vertex = its.lowest;
             *count = its.count;
-            *lowest = ancestry::rank(vertex);
+            *lowest = ancestry::lowest_rank(vertex);
             0
         }
         SeparatorAnswer::Refused(number) => number,

@@ -13,7 +13,7 @@ use lib.ListN.{length, getD}
 use Rattle.game.specs.Table.{tabulate, filtered}
 use Rattle.game.specs.Edge.{Edge, edges}
 use Rattle.game.specs.Net.{Net, charges}
-use Rattle.refusal.specs.Refusal.{odd}
+use Rattle.refusal.specs.Refusal.{notWhole}
 use Rattle.refusal.specs.Verdict.{isAccepted}
 use Rattle.refusal.specs.Outcome.{Outcome}
 use Rattle.growth.specs.Work.{Work, NetWithWork, withWork, badWork}
@@ -37,7 +37,7 @@ pub record Lot : Type 0 where
 -- it is lent for these edges among n vertices, with tables of the lengths that the calls need
 pub record LotOf (n : ℕ) (es : List Edge) (lot : Lot) : Type 0 where
   pub reads : edges (lot .list) ≡ es
-  pub whole : odd (lot .list) ≡ false
+  pub whole : notWhole (lot .list) ≡ false
   pub parents : length (lot .tables .parents) ≡ n
   pub weights : length (lot .tables .weights) ≡ n
   pub adding : badWork n (n + length es) (lot .adding) ≡ false

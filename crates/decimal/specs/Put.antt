@@ -7,7 +7,7 @@ use lib.ListN.{length}
 use lib.Seq.{sets}
 
 -- the text stands in the table from place `at` on, all of it, and ends before `end`; the rest of the table is as it was
-pub record Put (was : List ℕ) (at : ℕ) (text now : List ℕ) (end : ℕ) : Type 0 where
+pub record PutText (was : List ℕ) (at : ℕ) (text now : List ℕ) (end : ℕ) : Type 0 where
   pub fits : at + length text ≤ length was
   pub table : now ≡ sets was at text
   pub ends : end ≡ at + length text

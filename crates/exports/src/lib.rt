@@ -18,11 +18,11 @@ ghost use Rattle.divide.specs.Divide.{divisionOf, divideOutcome};
 ghost use Rattle.relabel.specs.Relabel.{relabelTables, relabelOutcome};
 ghost use Rattle.index.specs.Index.{index};
 ghost use Rattle.index.specs.Build.{indexOutcome};
-ghost use Rattle.query.specs.Query.{place, queryPlace};
+ghost use Rattle.query.specs.Query.{placeOf, queryPlace};
 ghost use Rattle.report_write.specs.Written.{written};
 ghost use Rattle.report.specs.Report.{lent, reportOutcome};
 ghost use Rattle.separate.specs.Separate.{separateTables, separateOutcome};
-ghost use Rattle.cells.specs.Returned.{returned, handed, filled, cells, separatorCells, handedTotals, handedRank, handedSeparator};
+ghost use Rattle.cells.specs.Returned.{returned, handed, filledCells, cells, separatorCells, handedTotals, handedRank, handedSeparator};
 
 #[no_mangle]
 pub extern "C" fn niqastul_relabel(
@@ -59,7 +59,7 @@ pub extern "C" fn niqastul_add(
     moved: &mut u32,
 ) -> u32
     ensures { λ r. ⌜
-        filled r (now (moved .exit)) (withWork (net (now (parents .exit)) (now (weights .exit))) (workOf (now (ends .exit)) (now (jump .exit)) (now (lower .exit))))
+        filledCells r (now (moved .exit)) (withWork (net (now (parents .exit)) (now (weights .exit))) (workOf (now (ends .exit)) (now (jump .exit)) (now (lower .exit))))
         ≡ handedRank (now (moved .entry)) (addOutcome (withWork (net (now (parents .entry)) (now (weights .entry))) (workOf (now (ends .entry)) (now (jump .entry)) (now (lower .entry)))) (now (edges .entry))) ⌝ }
 {
     let answer = forest::add(parents, weights, edges, ends, jump, lower);
@@ -78,7 +78,7 @@ pub extern "C" fn niqastul_join(
     moved: &mut u32,
 ) -> u32
     ensures { λ r. ⌜
-        filled r (now (moved .exit)) (withWork (net (now (parents .exit)) (now (weights .exit))) (workOf (now (ends .exit)) (now (jump .exit)) (now (lower .exit))))
+        filledCells r (now (moved .exit)) (withWork (net (now (parents .exit)) (now (weights .exit))) (workOf (now (ends .exit)) (now (jump .exit)) (now (lower .exit))))
         ≡ handedRank (now (moved .entry)) (joinOutcome (withWork (net (now (parents .entry)) (now (weights .entry))) (workOf (now (ends .entry)) (now (jump .entry)) (now (lower .entry)))) (net (now («other_parents» .entry)) (now («other_weights» .entry)))) ⌝ }
 {
     let answer = forest::join(
@@ -165,7 +165,7 @@ pub extern "C" fn niqastul_report(
     remainder: &mut u32,
 ) -> u32
     ensures { λ r. ⌜
-        filled r (cells (now (bound .exit)) (now (volume .exit)) (now (quotient .exit)) (now (remainder .exit)))
+        filledCells r (cells (now (bound .exit)) (now (volume .exit)) (now (quotient .exit)) (now (remainder .exit)))
         (lent (written (divisionOf (now (carried .exit)) (now (top .exit)) (now (block .exit)) (now («block_loads» .exit))) (now («edge_blocks» .exit)) (now (reach .exit)) (now («block_count» .exit)) (now («edges_taken» .exit)))
         (net (now («compared_parents» .exit)) (now («compared_weights» .exit)))
         (workOf (now (ends .exit)) (now (jump .exit)) (now (lower .exit))))
@@ -221,7 +221,7 @@ pub extern "C" fn niqastul_query(
     first: &mut u64,
     count: &mut u64,
 ) -> u32
-    ensures { λ r. ⌜ place r (now (first .exit)) (now (count .exit)) ≡ queryPlace (index (now (starts .entry)) (now (neighbours .entry))) rank ⌝ }
+    ensures { λ r. ⌜ placeOf r (now (first .exit)) (now (count .exit)) ≡ queryPlace (index (now (starts .entry)) (now (neighbours .entry))) rank ⌝ }
 {
     let part = query::locate(starts, neighbours, rank);
     hand_place(part, first, count)
@@ -246,7 +246,7 @@ pub extern "C" fn niqastul_separate(
     lowest: &mut u32,
 ) -> u32
     ensures { λ r. ⌜
-        filled r (separatorCells (now (count .exit)) (now (lowest .exit)))
+        filledCells r (separatorCells (now (count .exit)) (now (lowest .exit)))
         (separateTables (now (separator .exit)) (net (now («compared_parents» .exit)) (now («compared_weights» .exit))) (workOf (now (ends .exit)) (now (jump .exit)) (now (lower .exit))))
         ≡ handedSeparator (separatorCells (now (count .entry)) (now (lowest .entry)))
         (separateOutcome (net (now (parents .entry)) (now (weights .entry))) one other (now (edges .entry))

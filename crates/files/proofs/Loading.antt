@@ -19,7 +19,7 @@ use Rattle.refusal.specs.DivisionLimits.{badLimits}
 use Rattle.words.proofs.Bytes.{words-length}
 use Rattle.files.specs.Files.{Files, vertexCount, edgeCount, order, edgeList, limit, blocks, vertexCapacity, edgeCapacity}
 use Rattle.files.specs.Refused.{tooMany, partRecord, notRecords, fileRefusal}
-use Rattle.files.specs.Steps.{sizeRefusal, contentRefusal, Sized, Decided, Loaded, endCapacity}
+use Rattle.files.specs.Steps.{sizeRefusal, contentRefusal, Sized, Decided, FilesLoaded, endCapacity}
 
 -- files whose lengths are not refused
 pub record Sizes (f : Files) : Type 0 where
@@ -106,11 +106,11 @@ module _ (f : Files) where
   sized o xs z lo lx = record { passed = z; vertices = length-take-le _ o (order-room (length o) z lo); ends = length-take-le _ xs (edge-room (length xs) z lx) }
 
   -- the two ways in which loading ends
-  pub loaded-not : {o xs : List ℕ} {code : ℕ} → code ≡ sizeRefusal f → (code ≡ 0 → ⊥) → Loaded f o xs code
+  pub loaded-not : {o xs : List ℕ} {code : ℕ} → code ≡ sizeRefusal f → (code ≡ 0 → ⊥) → FilesLoaded f o xs code
   loaded-not e d = record { refusal = size-stops e d; ordered = λ z. absurd (d z); listed = λ z. absurd (d z) }
 
   pub loaded : {o xs : List ℕ} {code : ℕ} (restO restX : List ℕ) → sizeRefusal f ≡ 0 → length o ≡ length (f .marks) / 4 → length xs ≡ length (f .ties) / 4
-      → Decided f o xs code → Loaded f (o ++ restO) (xs ++ restX) code
+      → Decided f o xs code → FilesLoaded f (o ++ restO) (xs ++ restX) code
   loaded {o} {xs} restO restX z lo lx d =
       record {
         refusal = size-passes z (d .content);

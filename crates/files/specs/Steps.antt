@@ -37,7 +37,7 @@ pub record Decided (f : Files) (o xs : List ℕ) (code : ℕ) : Type 0 where
   pub content : code ≡ contentRefusal (order f) (edgeList f) (limit f) (blocks f)
 
 -- what loading leaves: the refusal of the files; if there is none, tables that begin with the order and the edges
-pub record Loaded (f : Files) (o xs : List ℕ) (code : ℕ) : Type 0 where
+pub record FilesLoaded (f : Files) (o xs : List ℕ) (code : ℕ) : Type 0 where
   pub refusal : code ≡ fileRefusal f
   pub ordered : code ≡ 0 → take (length (f .marks) / 4) o ≡ order f
   pub listed : code ≡ 0 → take (length (f .ties) / 4) xs ≡ edgeList f

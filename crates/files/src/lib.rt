@@ -7,7 +7,7 @@ ghost use Rattle.refusal.specs.Refusal.{first, given};
 ghost use Rattle.refusal.specs.DivisionLimits.{badLimits};
 ghost use Rattle.words.specs.Word.{words};
 ghost use Rattle.files.specs.Files.{files as filesOf, vertexCapacity};
-ghost use Rattle.files.specs.Steps.{sizeRefusal, contentRefusal, Sized, Loaded, Decided, endCapacity};
+ghost use Rattle.files.specs.Steps.{sizeRefusal, contentRefusal, Sized, FilesLoaded, Decided, endCapacity};
 
 // The tables of a run hold 1,000 vertices and 4,000 edges.
 pub const VERTICES: usize = 1_000;
@@ -108,7 +108,7 @@ fn take_files(marks: &[u8], ties: &[u8], want: &[u8], order: &mut [u32], edges: 
 // and the edges.
 pub fn load(marks: &[u8], ties: &[u8], want: &[u8], order: &mut [u32], edges: &mut [u32]) -> u32
     requires { ⌜ (length (now order) ≡ vertexCapacity) × (length (now edges) ≡ endCapacity) ⌝ }
-    ensures { λ r. ⌜ Loaded (filesOf (now (marks .entry)) (now (ties .entry)) (now (want .entry))) (now (order .exit)) (now (edges .exit)) r ⌝ }
+    ensures { λ r. ⌜ FilesLoaded (filesOf (now (marks .entry)) (now (ties .entry)) (now (want .entry))) (now (order .exit)) (now (edges .exit)) r ⌝ }
 {
     let code = size_refusal(marks, ties, want);
     if code != 0 {

@@ -31,6 +31,19 @@ or-neither false b e = (refl, e)
 pub neither-or : (a b : Bool) → a ≡ false → b ≡ false → (a || b) ≡ false
 neither-or a b p q = rw (p, q)
 
+-- the order of tests joined by "or" does not matter
+pub or-comm : (a b : Bool) → (a || b) ≡ (b || a)
+or-comm true true = refl
+or-comm true false = refl
+or-comm false true = refl
+or-comm false false = refl
+
+pub or-swap : (a b c : Bool) → (a || (b || c)) ≡ (b || (a || c))
+or-swap true true c = refl
+or-swap true false c = refl
+or-swap false true c = refl
+or-swap false false c = refl
+
 -- a test passes or not
 pub test-cases : {A : Type 0} (b : Bool) → (b ≡ true → A) → (b ≡ false → A) → A
 test-cases true f g = f refl

@@ -27,16 +27,16 @@ sum-map-append f [] fs = sym (zero-add (sum (map f fs)))
 sum-map-append f (e ∷ es) fs = ap (λ (k : ℕ). f e + k) (sum-map-append f es fs) ∙ sym (add-assoc (f e) (sum (map f es)) (sum (map f fs)))
 
 -- c at k, 0 elsewhere
-unfoldable pub share : ℕ → ℕ → ℕ → ℕ
-share c k x = cond (eqb k x) c 0
+unfoldable pub charged : ℕ → ℕ → ℕ → ℕ
+charged c k x = cond (eqb k x) c 0
 
-pub share-here : (c k x : ℕ) → k ≡ x → share c k x ≡ c
-unfolding share
-share-here c k x e = rw (eq-eqb k x e)
+pub charged-here : (c k x : ℕ) → k ≡ x → charged c k x ≡ c
+unfolding charged
+charged-here c k x e = rw (eq-eqb k x e)
 
-pub share-elsewhere : (c k x : ℕ) → k ≢ x → share c k x ≡ 0
-unfolding share
-share-elsewhere c k x d = rw (ne-eqb k x d)
+pub charged-elsewhere : (c k x : ℕ) → k ≢ x → charged c k x ≡ 0
+unfolding charged
+charged-elsewhere c k x d = rw (ne-eqb k x d)
 
 -- lists laid together: the weights add up
 pub weight-append : (es fs : List Edge) (x : ℕ) → weight (es ++ fs) x ≡ weight es x + weight fs x
@@ -47,25 +47,25 @@ pub charges-append : (es fs : List Edge) → charges (es ++ fs) ≡ charges es +
 unfolding charges
 charges-append es fs = sum-map-append charge es fs
 
-pub weight-cons : (e : Edge) (es : List Edge) (x : ℕ) → weight (e ∷ es) x ≡ share (charge e) (owner e) x + weight es x
-unfolding weight share
+pub weight-cons : (e : Edge) (es : List Edge) (x : ℕ) → weight (e ∷ es) x ≡ charged (charge e) (owner e) x + weight es x
+unfolding weight charged
 weight-cons e es x = refl
 
-one-share : (b : Bool) → cond b 1 0 ≡ one-if b
+one-charged : (b : Bool) → cond b 1 0 ≡ one-if b
 unfolding one-if
-one-share true = refl
-one-share false = refl
+one-charged true = refl
+one-charged false = refl
 
--- a share of 1 is a count
-pub share-one : (k x : ℕ) → share 1 k x ≡ one-if (eqb k x)
-unfolding share
-share-one k x = one-share (eqb k x)
+-- a charged of 1 is a count
+pub charged-one : (k x : ℕ) → charged 1 k x ≡ one-if (eqb k x)
+unfolding charged
+charged-one k x = one-charged (eqb k x)
 
 -- each edge charges 1, to its lower end
 pub weight-count : (es : List Edge) (x : ℕ) → weight es x ≡ count (λ (e : Edge). eqb (lower e) x) es
 unfolding weight count owner charge
 weight-count [] x = refl
-weight-count (e ∷ es) x = ap₂ _+_ (one-share (eqb (lower e) x)) (weight-count es x)
+weight-count (e ∷ es) x = ap₂ _+_ (one-charged (eqb (lower e) x)) (weight-count es x)
 
 pub charges-count : (es : List Edge) → charges es ≡ length es
 unfolding charges charge
@@ -86,28 +86,28 @@ pub weights-empty : (n : ℕ) → weights n [] ≡ replicate n 0
 unfolding weights weight
 weights-empty n = tabulate-const n (weight []) 0 (λ i h. refl)
 
-sum-share-past : (c i n k : ℕ) → k < i → sum (tabulateFrom i n (share c k)) ≡ 0
+sum-charged-past : (c i n k : ℕ) → k < i → sum (tabulateFrom i n (charged c k)) ≡ 0
 unfolding tabulateFrom sum
-sum-share-past c i zero k h = refl
-sum-share-past c i (suc n) k h = omega (arith, share-elsewhere c k i (ne-of-lt h), sum-share-past c (suc i) n k (omega arith))
+sum-charged-past c i zero k h = refl
+sum-charged-past c i (suc n) k h = omega (arith, charged-elsewhere c k i (ne-of-lt h), sum-charged-past c (suc i) n k (omega arith))
 
-sum-share-from : (c i n k : ℕ) → i ≤ k → k < i + n → sum (tabulateFrom i n (share c k)) ≡ c
+sum-charged-from : (c i n k : ℕ) → i ≤ k → k < i + n → sum (tabulateFrom i n (charged c k)) ≡ c
 unfolding tabulateFrom sum
-sum-share-from c i zero k h l = absurd (omega arith)
-sum-share-from c i (suc n) k h l =
+sum-charged-from c i zero k h l = absurd (omega arith)
+sum-charged-from c i (suc n) k h l =
     by-cases (ℕ-discrete k i)
-    (λ (e : k ≡ i). omega (arith, share-here c k i e, sum-share-past c (suc i) n k (omega arith)))
-    (λ (d : k ≢ i). omega (arith, share-elsewhere c k i d, sum-share-from c (suc i) n k (omega arith) (omega arith)))
+    (λ (e : k ≡ i). omega (arith, charged-here c k i e, sum-charged-past c (suc i) n k (omega arith)))
+    (λ (d : k ≢ i). omega (arith, charged-elsewhere c k i d, sum-charged-from c (suc i) n k (omega arith) (omega arith)))
 
-pub sum-share : (c n k : ℕ) → k < n → sum (tabulate n (share c k)) ≡ c
+pub sum-charged : (c n k : ℕ) → k < n → sum (tabulate n (charged c k)) ≡ c
 unfolding tabulate
-sum-share c n k h = sum-share-from c 0 n k (omega arith) (omega arith)
+sum-charged c n k h = sum-charged-from c 0 n k (omega arith) (omega arith)
 
 -- in a proper graph each edge is charged once
 pub weights-charges : {n : ℕ} {es : List Edge} → Proper n es → sum (weights n es) ≡ charges es
-unfolding weights weight charges owner share
+unfolding weights weight charges owner charged
 weights-charges {n} {es = []} p = ap sum (weights-empty n) ∙ sum-zeros n
 weights-charges {n} {es = (a ─ b) ∷ es} p =
     let (ha, hb, d) = proper-head p in
-    sum-tabulate-add n (share (charge (a ─ b)) (owner (a ─ b))) (weight es)
-    ∙ ap₂ _+_ (sum-share (charge (a ─ b)) n (min a b) (omega arith)) (weights-charges (proper-tail p))
+    sum-tabulate-add n (charged (charge (a ─ b)) (owner (a ─ b))) (weight es)
+    ∙ ap₂ _+_ (sum-charged (charge (a ─ b)) n (min a b) (omega arith)) (weights-charges (proper-tail p))

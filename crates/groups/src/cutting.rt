@@ -1,7 +1,7 @@
 // Cutting: each vertex, by rising rank, keeps of its children what it can carry.
 use crate::classes::CLASSES;
 use crate::classes::class_of;
-use crate::classes::file;
+use crate::classes::file_children;
 use crate::classes::floor_of;
 use cut::trim;
 use net::Net;
@@ -48,7 +48,7 @@ fn lighten_by_class(
     requires { ⌜ Unfiled (now heads) ⌝ }
     ensures { λ r. ⌜ Lightened x weight limit (now (carried .entry)) (now (link .entry)) (now (link .exit)) (now (next .entry)) (now (next .exit)) r ⌝ }
 {
-    file(first, carried, next, heads);
+    file_children(first, carried, next, heads);
     let mut class = class_of(limit, heads.len() - 1) + 1;
     let mut left = uncut;
     while 0 < class && limit < weight + left {

@@ -46,12 +46,12 @@ struct Raising {
 // when it has a jump; before that its entry is left from before. Up to where the last bucket ends the table of lower ends is kept or
 // cleared.
 fn raise(
+    parents: &mut [u32],
+    weights: &mut [u32],
     keep: bool,
     ends: &[u32],
-    lower: &mut [u32],
-    weights: &mut [u32],
-    parents: &mut [u32],
     jump: &mut [u32],
+    lower: &mut [u32],
 ) -> Raising
     requires { ⌜ Blank (now ends) (now lower) (now weights) (now parents) (now jump) ⌝ }
     ensures { λ r. ⌜ Raises keep (now (ends .entry)) (now (lower .entry)) (now (weights .entry)) (now (parents .entry)) (now (jump .entry)) (now (lower .exit)) (now (weights .exit)) (now (parents .exit)) (now (jump .exit)) (r .end) × Moves (now (parents .entry)) (now (jump .entry)) absent (now (parents .exit)) (now (jump .exit)) (r .moved) ⌝ }
@@ -99,7 +99,7 @@ pub fn grow(
     ensures { λ r. ⌜ Grows (now (ends .entry)) (now (lower .entry)) (now (weights .entry)) (now (parents .entry)) (now (jump .entry)) (now (parents .exit)) (now (weights .exit)) (now (ends .exit)) (now (lower .exit)) (now (jump .exit)) × Differ (now (parents .entry)) (now (parents .exit)) r ⌝ }
 {
     table::fill(jump, Net::ABSENT);
-    let raising = raise(false, ends, lower, weights, parents, jump);
+    let raising = raise(parents, weights, false, ends, jump, lower);
     clear(ends, jump, lower, raising.end);
     raising.moved
 }
@@ -116,7 +116,7 @@ pub fn grow_kept(
     ensures { λ _. ⌜ GrowsKept (now (ends .entry)) (now (lower .entry)) (now (weights .entry)) (now (parents .entry)) (now (parents .exit)) (now (weights .exit)) (now (lower .exit)) ⌝ }
 {
     table::fill(jump, Net::ABSENT);
-    raise(true, ends, lower, weights, parents, jump);
+    raise(parents, weights, true, ends, jump, lower);
 }
 
 // Grows the forest of the graph that is filed, and clears the work tables. Some edges may be old links, so no weight is counted: the

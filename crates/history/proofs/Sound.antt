@@ -15,7 +15,7 @@ use Rattle.divide.proofs.Division.{divide-not-30}
 use Rattle.report.proofs.Own.{report-not-30}
 use Rattle.separate.proofs.Own.{separate-not-30}
 use Rattle.history.specs.World.{World, Call, start, add, join, save, read, relabel, divide, report, index, query, separate, update, step, stepped}
-use Rattle.history.specs.Sound.{written, Never30}
+use Rattle.history.specs.Sound.{netWritten, Never30}
 use Rattle.history.proofs.Update.{update-here}
 
 pub valid-never-30 : {of : Net} → Valid of → Never30 of
@@ -43,8 +43,8 @@ put nets i j of e v = let same : i ≡ j = cc in subst (λ (k : ℕ). Valid (upd
 nothing : {j : ℕ} → none ≡ some j → ⊥
 nothing e = let z : _≡_ {A = ℕ} 0 1 = cc in omega arith
 
-written-valid : (w : World) (c : Call) (j : ℕ) → written c ≡ some j → step w c .accepted ≡ true → Valid (step w c .world .nets j)
-unfolding written step stepped
+written-valid : (w : World) (c : Call) (j : ℕ) → netWritten c ≡ some j → step w c .accepted ≡ true → Valid (step w c .world .nets j)
+unfolding netWritten step stepped
 written-valid w (start i) j e a = put (w .nets) i j _ e (start-valid (w .nets i) (said _ a .1))
 written-valid w (add i xs work) j e a = put (w .nets) i j _ e (add-valid (withWork (w .nets i) work) xs (said _ a .1))
 written-valid w (join i k different work) j e a = put (w .nets) i j _ e (join-valid (withWork (w .nets i) work) (w .nets k) (said _ a .1))
@@ -57,5 +57,5 @@ written-valid w (index old more tables) j e a = absurd (nothing e)
 written-valid w (query tables rank) j e a = absurd (nothing e)
 written-valid w (separate i x y xs tables) j e a = absurd (nothing e)
 
-pub accepted-never-30 : (w : World) (c : Call) (i : ℕ) → written c ≡ some i → step w c .accepted ≡ true → Never30 (step w c .world .nets i)
+pub accepted-never-30 : (w : World) (c : Call) (i : ℕ) → netWritten c ≡ some i → step w c .accepted ≡ true → Never30 (step w c .world .nets i)
 accepted-never-30 w c i e a = valid-never-30 (written-valid w c i e a)

@@ -18,18 +18,18 @@ use Rattle.separate.specs.Separate.{SeparateTables, separateOutcome}
 use Rattle.history.specs.World.{Call, start, add, join, save, read, relabel, divide, report, index, query, separate}
 
 -- the net that a call writes when it is accepted
-unfoldable pub written : Call → Option ℕ
-written (start i) = some i
-written (add i xs work) = some i
-written (join i j different work) = some i
-written (save i f) = none
-written (read i f) = some i
-written (relabel order xs tables) = none
-written (divide i B k tables) = none
-written (report i B k xs tables) = none
-written (index old more tables) = none
-written (query tables rank) = none
-written (separate i a b xs tables) = none
+unfoldable pub netWritten : Call → Option ℕ
+netWritten (start i) = some i
+netWritten (add i xs work) = some i
+netWritten (join i j different work) = some i
+netWritten (save i f) = none
+netWritten (read i f) = some i
+netWritten (relabel order xs tables) = none
+netWritten (divide i B k tables) = none
+netWritten (report i B k xs tables) = none
+netWritten (index old more tables) = none
+netWritten (query tables rank) = none
+netWritten (separate i a b xs tables) = none
 
 -- whatever else a call is lent
 pub record Never30 (of : Net) : Type 0 where

@@ -10,7 +10,7 @@ use lib.Dec.{eqb, ltb}
 use lib.ListN.{length}
 use Rattle.game.specs.Edge.{Edge, edges}
 use Rattle.refusal.specs.Limits.{maxEdges}
-use Rattle.refusal.specs.Refusal.{given, first, badCount, wrongLength, odd, firstFault}
+use Rattle.refusal.specs.Refusal.{given, first, badCount, wrongLength, notWhole, firstFault}
 use Rattle.refusal.specs.Outcome.{Done, done}
 use Rattle.index.specs.Index.{Index, vertices, indexOf}
 
@@ -21,8 +21,8 @@ indexRefusal t old added =
     first
     (given (eqb (length (t .starts)) 0) 2
     ∷ given (badCount (vertices t)) 1
-    ∷ given (odd old) 2
-    ∷ given (odd added) 2
+    ∷ given (notWhole old) 2
+    ∷ given (notWhole added) 2
     ∷ given (wrongLength (length (t .neighbours)) (2 * length both)) 2
     ∷ firstFault (vertices t) both
     ∷ given (ltb maxEdges (length both)) 20

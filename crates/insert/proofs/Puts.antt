@@ -19,7 +19,7 @@ use Rattle.game.specs.Graph.{flip, nil}
 use Rattle.refusal.specs.Refusal.{fault, firstFault}
 use Rattle.refusal.proofs.Fault.{faultless, first-fault-on}
 use Rattle.refusal.proofs.First.{first-none}
-use Rattle.insert.specs.Putting.{Alike, pending, Table, Exchanged, Lowers, Put, PutUpTo}
+use Rattle.insert.specs.Putting.{Alike, pending, Table, Exchanged, Lowers, PutEdge, PutUpTo}
 use Rattle.insert.proofs.Lowered.{lowers-set}
 use Rattle.insert.proofs.Exchanges.{exchange-root, exchange-on, exchange-swap, spent-alike}
 
@@ -107,7 +107,7 @@ trade-step t x = record {
   alike = alike-trans (x .alike) (t .alike);
 }
 
-pub trade-end : {p : List ℕ} {e : Edge} {q : List ℕ} {low high steps : ℕ} → Trading p e q low high steps → high ≤ low → Put p e q steps
+pub trade-end : {p : List ℕ} {e : Edge} {q : List ℕ} {low high steps : ℕ} → Trading p e q low high steps → high ≤ low → PutEdge p e q steps
 trade-end {p} {e} {q} {low} {high} t done = record {
   same = t .same;
   sound = t .table .sound;
@@ -122,7 +122,7 @@ trade-end {p} {e} {q} {low} {high} t done = record {
     spent a = subst (λ (x : ℕ). Alike (links q) (pending q (x ─ high))) is (record { there = a .back; back = a .there })
 
 -- an edge may be written either way round
-pub put-turned : {p : List ℕ} {a b : ℕ} {q : List ℕ} {steps : ℕ} → Put p (b ─ a) q steps → Put p (a ─ b) q steps
+pub put-turned : {p : List ℕ} {a b : ℕ} {q : List ℕ} {steps : ℕ} → PutEdge p (b ─ a) q steps → PutEdge p (a ─ b) q steps
 unfolding pending
 put-turned {p} {a} {b} x = record { same = x .same; sound = x .sound; quick = x .quick; alike = alike-trans (x .alike) turned }
   where
@@ -150,7 +150,7 @@ module _ {p xs q : List ℕ} {i : ℕ} (u : PutUpTo p xs q i) (h : i + 1 < lengt
   put-ends = let k = faultless (length p) (getD xs i 0) (getD xs (i + 1) 0) (split .0) in
       (omega (arith, k .0, u .same), omega (arith, k .1, u .same), k .2)
 
-  pub put-next : {q′ : List ℕ} {steps : ℕ} → Put q (getD xs i 0 ─ getD xs (i + 1) 0) q′ steps → PutUpTo p xs q′ (i + 2)
+  pub put-next : {q′ : List ℕ} {steps : ℕ} → PutEdge q (getD xs i 0 ─ getD xs (i + 1) 0) q′ steps → PutUpTo p xs q′ (i + 2)
   unfolding pending
   put-next {q′} x = record {
     same = x .same ∙ u .same;

@@ -40,7 +40,7 @@ pub record Lowers (p : List ℕ) (m : ℕ) (p′ : List ℕ) (m′ : ℕ) : Type
   pub fallen : (was : List ℕ) → Fallen was p m → Fallen was p′ m′
 
 -- putting the edge e in promises a sound table that is alike with the old one and the edge, in few steps
-pub record Put (p : List ℕ) (e : Edge) (p′ : List ℕ) (steps : ℕ) : Type 0 where
+pub record PutEdge (p : List ℕ) (e : Edge) (p′ : List ℕ) (steps : ℕ) : Type 0 where
   pub same : length p′ ≡ length p
   pub sound : sound p′ ≡ true
   pub alike : Alike (links p′) (pending p e)

@@ -28,6 +28,6 @@ pub fn extend(
     if counted {
         return growing::grow_counted(parents, weights, edges, ends, jump, lower);
     }
-    bucket::tally(weights, edges, false);
+    bucket::tally(edges, false, weights);
     inserting::insert(parents, edges, ends, jump, lower)
 }

@@ -27,7 +27,7 @@ pub fn grow_counted(
         bucket::file_counted(edges, ends, lower);
         return growth::grow(parents, weights, ends, jump, lower);
     }
-    bucket::tally(weights, edges, false);
+    bucket::tally(edges, false, weights);
     bucket::file_counted_edges(parents, edges, ends, lower);
     growth::regrow(parents, ends, jump, lower)
 }

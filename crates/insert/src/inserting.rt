@@ -38,5 +38,5 @@ pub fn insert(
     }
     bucket::file_edges(parents, &edges[at..], ends, lower);
     let grown = growth::regrow(parents, ends, jump, lower);
-    moved::lower(progress.moved, grown)
+    table::smaller(progress.moved, grown)
 }

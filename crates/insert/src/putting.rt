@@ -7,7 +7,7 @@ ghost use Rattle.game.specs.Edge.{edges as edgesOf, _─_};
 ghost use Rattle.refusal.specs.Limits.{maxVertices};
 ghost use Rattle.refusal.specs.Refusal.{firstFault};
 ghost use Rattle.moved.specs.Steps.{Fallen};
-ghost use Rattle.insert.specs.Putting.{Table, Exchanged, Lowers, Put, PutUpTo};
+ghost use Rattle.insert.specs.Putting.{Table, Exchanged, Lowers, PutEdge, PutUpTo};
 
 // An edge on its way into the forest, from a lower vertex to a higher one; spent, where the two are one. With it goes the lowest vertex
 // that moved so far.
@@ -36,7 +36,7 @@ fn exchange(parents: &mut [u32], low: u32, high: u32, moved: u32) -> Pending
         return Pending {
             low: high,
             high,
-            moved: moved::lower(moved, low),
+            moved: table::smaller(moved, low),
         };
     }
     if parent <= high {
@@ -50,14 +50,14 @@ fn exchange(parents: &mut [u32], low: u32, high: u32, moved: u32) -> Pending
     Pending {
         low: high,
         high: parent,
-        moved: moved::lower(moved, low),
+        moved: table::smaller(moved, low),
     }
 }
 
 // Puts an edge in, given by its ends, lower first. Answers the number of exchanges, and the lowest vertex that moved so far.
 fn put_up(parents: &mut [u32], from: u32, to: u32, moved: u32) -> Progress
     requires { ⌜ Table (now parents) × (from < to) × (to < length (now parents)) ⌝ }
-    ensures { λ r. ⌜ Put (now (parents .entry)) (from ─ to) (now (parents .exit)) (r .count) × Lowers (now (parents .entry)) moved (now (parents .exit)) (r .moved) ⌝ }
+    ensures { λ r. ⌜ PutEdge (now (parents .entry)) (from ─ to) (now (parents .exit)) (r .count) × Lowers (now (parents .entry)) moved (now (parents .exit)) (r .moved) ⌝ }
 {
     let mut low = from;
     let mut high = to;
@@ -76,9 +76,9 @@ fn put_up(parents: &mut [u32], from: u32, to: u32, moved: u32) -> Progress
     }
 }
 
-fn put(parents: &mut [u32], a: u32, b: u32, moved: u32) -> Progress
+fn put_edge(parents: &mut [u32], a: u32, b: u32, moved: u32) -> Progress
     requires { ⌜ Table (now parents) × (a < length (now parents)) × (b < length (now parents)) × (a ≡ b → ⊥) ⌝ }
-    ensures { λ r. ⌜ Put (now (parents .entry)) (a ─ b) (now (parents .exit)) (r .count) × Lowers (now (parents .entry)) moved (now (parents .exit)) (r .moved) ⌝ }
+    ensures { λ r. ⌜ PutEdge (now (parents .entry)) (a ─ b) (now (parents .exit)) (r .count) × Lowers (now (parents .entry)) moved (now (parents .exit)) (r .moved) ⌝ }
 {
     if a < b {
         put_up(parents, a, b, moved)
@@ -100,7 +100,7 @@ pub fn put_some(parents: &mut [u32], edges: &[u32], budget: usize) -> Progress
         if budget <= steps {
             return Progress { count: i, moved };
         }
-        let taken = put(parents, edges[i], edges[i + 1], moved);
+        let taken = put_edge(parents, edges[i], edges[i + 1], moved);
         steps += taken.count;
         moved = taken.moved;
         i += 2;

@@ -9,7 +9,7 @@ ghost use mathlib.Core.List.{[], _∷_, _++_};
 ghost use Prim.Native.Nat.{_+_, _≤_, _<_};
 ghost use lib.ListN.{length};
 ghost use Rattle.decimal.specs.Decimal.{decimal};
-ghost use Rattle.decimal.specs.Put.{Put};
+ghost use Rattle.decimal.specs.Put.{PutText};
 ghost use Rattle.lines.specs.Line.{spaced, parentText, lineText};
 ghost use Rattle.lines.specs.FieldSteps.{entryRoom, figureRoom, lineRoom};
 
@@ -24,7 +24,7 @@ pub const LINE: usize = 8 * ENTRY;
 // A number and the byte behind it.
 fn put_field(text: &mut [u8], at: usize, x: u64, after: u8) -> usize
     requires { ⌜ at + length (decimal x) < length (now text) ⌝ }
-    ensures { λ r. ⌜ Put (now (text .entry)) at (decimal x ++ (after ∷ [])) (now (text .exit)) r ⌝ }
+    ensures { λ r. ⌜ PutText (now (text .entry)) at (decimal x ++ (after ∷ [])) (now (text .exit)) r ⌝ }
 {
     let end = put_number(text, at, x);
     put_byte(text, end, after)
@@ -33,7 +33,7 @@ fn put_field(text: &mut [u8], at: usize, x: u64, after: u8) -> usize
 // The same for a number of 32 bits, which takes ten digits at most.
 pub fn put_entry(text: &mut [u8], at: usize, x: u32, after: u8) -> usize
     requires { ⌜ at + entryRoom ≤ length (now text) ⌝ }
-    ensures { λ r. ⌜ Put (now (text .entry)) at (decimal x ++ (after ∷ [])) (now (text .exit)) r × (r ≤ at + entryRoom) ⌝ }
+    ensures { λ r. ⌜ PutText (now (text .entry)) at (decimal x ++ (after ∷ [])) (now (text .exit)) r × (r ≤ at + entryRoom) ⌝ }
 {
     put_field(text, at, amount(x), after)
 }
@@ -41,7 +41,7 @@ pub fn put_entry(text: &mut [u8], at: usize, x: u32, after: u8) -> usize
 // And for one of 64 bits, which takes twenty.
 pub fn put_figure(text: &mut [u8], at: usize, x: u64, after: u8) -> usize
     requires { ⌜ at + figureRoom ≤ length (now text) ⌝ }
-    ensures { λ r. ⌜ Put (now (text .entry)) at (decimal x ++ (after ∷ [])) (now (text .exit)) r × (r ≤ at + figureRoom) ⌝ }
+    ensures { λ r. ⌜ PutText (now (text .entry)) at (decimal x ++ (after ∷ [])) (now (text .exit)) r × (r ≤ at + figureRoom) ⌝ }
 {
     put_field(text, at, x, after)
 }
@@ -49,7 +49,7 @@ pub fn put_figure(text: &mut [u8], at: usize, x: u64, after: u8) -> usize
 // A parent, '-' if it is absent, and a space.
 pub fn put_parent(text: &mut [u8], at: usize, parent: u32) -> usize
     requires { ⌜ at + entryRoom ≤ length (now text) ⌝ }
-    ensures { λ r. ⌜ Put (now (text .entry)) at (spaced (parentText parent)) (now (text .exit)) r × (r ≤ at + entryRoom) ⌝ }
+    ensures { λ r. ⌜ PutText (now (text .entry)) at (spaced (parentText parent)) (now (text .exit)) r × (r ≤ at + entryRoom) ⌝ }
 {
     if parent == Net::ABSENT {
         return put_text(text, at, b"- ");
@@ -71,7 +71,7 @@ pub fn put_line(
     block_count: u32,
 ) -> usize
     requires { ⌜ at + lineRoom ≤ length (now text) ⌝ }
-    ensures { λ r. ⌜ Put (now (text .entry)) at (lineText rank vertex parent weight reach top block «block_count») (now (text .exit)) r × (r ≤ at + lineRoom) ⌝ }
+    ensures { λ r. ⌜ PutText (now (text .entry)) at (lineText rank vertex parent weight reach top block «block_count») (now (text .exit)) r × (r ≤ at + lineRoom) ⌝ }
 {
     let end = put_entry(text, at, rank, b' ');
     let end = put_entry(text, end, vertex, b' ');

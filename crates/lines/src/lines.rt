@@ -9,7 +9,7 @@ use decimal::put_text;
 use share::Share;
 ghost use Prim.Native.Nat.{_+_, _*_, _≤_};
 ghost use lib.ListN.{length};
-ghost use Rattle.decimal.specs.Put.{Put};
+ghost use Rattle.decimal.specs.Put.{PutText};
 ghost use Rattle.cost.specs.Answer.{verdict};
 ghost use Rattle.lines.specs.FieldSteps.{lineRoom};
 ghost use Rattle.lines.specs.Lines.{refusedText, rankText, linesBelow, shareText, totalsText};
@@ -29,7 +29,7 @@ fn put_lines(
     requires { ⌜ Columns (now order) (now parents) (now weights) (now reach) (now top) (now block) (now «block_count») ⌝ }
     requires { ⌜ lineRoom * length (now order) ≤ length (now text) ⌝ }
     ensures { λ r. ⌜
-        Put (now (text .entry)) 0
+        PutText (now (text .entry)) 0
         (linesBelow (rankText (now (order .entry)) (now (parents .entry)) (now (weights .entry)) (now (reach .entry)) (now (top .entry))
         (now (block .entry)) (now («block_count» .entry))) (length (now (order .entry))))
         (now (text .exit)) r
@@ -58,7 +58,7 @@ fn put_lines(
 // The even share, which ends the last line.
 fn put_share(text: &mut [u8], at: usize, share: Share) -> usize
     requires { ⌜ at + shareRoom ≤ length (now text) ⌝ }
-    ensures { λ r. ⌜ Put (now (text .entry)) at (shareText share) (now (text .exit)) r ⌝ }
+    ensures { λ r. ⌜ PutText (now (text .entry)) at (shareText share) (now (text .exit)) r ⌝ }
 {
     let end = put_text(text, at, b"share ");
     let end = put_entry(text, end, share.quotient(), b' ');
@@ -68,7 +68,7 @@ fn put_share(text: &mut [u8], at: usize, share: Share) -> usize
 // The last line: the totals of the report.
 fn put_totals(text: &mut [u8], at: usize, totals: Totals) -> usize
     requires { ⌜ at + totalsRoom ≤ length (now text) ⌝ }
-    ensures { λ r. ⌜ Put (now (text .entry)) at (totalsText totals) (now (text .exit)) r ⌝ }
+    ensures { λ r. ⌜ PutText (now (text .entry)) at (totalsText totals) (now (text .exit)) r ⌝ }
 {
     let end = put_text(text, at, b"bound ");
     let end = put_figure(text, end, totals.bound, b' ');
@@ -80,7 +80,7 @@ fn put_totals(text: &mut [u8], at: usize, totals: Totals) -> usize
 // What a refused run prints.
 pub fn put_refused(text: &mut [u8], code: u32) -> usize
     requires { ⌜ totalsRoom ≤ length (now text) ⌝ }
-    ensures { λ r. ⌜ Put (now (text .entry)) 0 (refusedText code) (now (text .exit)) r ⌝ }
+    ensures { λ r. ⌜ PutText (now (text .entry)) 0 (refusedText code) (now (text .exit)) r ⌝ }
 {
     let end = put_text(text, 0, b"refused ");
     put_entry(text, end, code, b'\n')
@@ -101,7 +101,7 @@ pub fn put_answer(
     requires { ⌜ Columns (now order) (now parents) (now weights) (now reach) (now top) (now block) (now «block_count») ⌝ }
     requires { ⌜ lineRoom * length (now order) + totalsRoom ≤ length (now text) ⌝ }
     ensures { λ r. ⌜
-        Put (now (text .entry)) 0
+        PutText (now (text .entry)) 0
         (answerText (verdict answer)
         (linesBelow (rankText (now (order .entry)) (now (parents .entry)) (now (weights .entry)) (now (reach .entry)) (now (top .entry))
         (now (block .entry)) (now («block_count» .entry))) (length (now (order .entry)))))

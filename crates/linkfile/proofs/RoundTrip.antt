@@ -20,7 +20,7 @@ use Rattle.game.proofs.Tables.{sum-entry}
 use Rattle.refusal.specs.Limits.{maxVertices, maxTotal}
 use Rattle.refusal.specs.Refusal.{given, first, badCount}
 use Rattle.refusal.specs.Verdict.{accepted, refused}
-use Rattle.refusal.specs.Outcome.{ended, decided}
+use Rattle.refusal.specs.Outcome.{decided}
 use Rattle.net.specs.Damage.{damaged, damagedBy}
 use Rattle.net.proofs.Scan.{undamaged}
 use Rattle.records.specs.LinkFile.{records, linkFile, recordParents, recordWeights, fileNet}
@@ -34,6 +34,7 @@ use Rattle.forest.proofs.Promise.{valid-undamaged}
 use Rattle.save.proofs.Accepted.{save-accepted, save-passes}
 use Rattle.read.proofs.Accepted.{read-accepted, read-passes}
 use Rattle.read.proofs.Records.{file-lengths}
+use Rattle.linkfile.specs.RoundTrip.{ReadsBack, SavesBack}
 
 -- the columns of the records are the tables
 records-columns : (ps ws : List ℕ) → length ws ≡ length ps → (recordParents (records ps ws) ≡ ps) × (recordWeights (records ps ws) ≡ ws)
@@ -123,33 +124,36 @@ read-undamaged n m bytes e = neither (not (sound (fileNet bytes .parents))) (ltb
     neither false false f = refl
 
 -- An accepted save, read into tables of n entries that hold anything, is accepted and leaves the net.
-pub save-read : (of : Net) (room : List ℕ) → saveOutcome of room .verdict ≡ accepted tt
-    → (into : Net) → length (into .parents) ≡ length (of .parents) → length (into .weights) ≡ length (of .parents)
-    → readOutcome into (saveOutcome of room .tables) ≡ ended (accepted tt) of
+pub save-read : (of : Net) (room : List ℕ) → saveOutcome of room .verdict ≡ accepted tt → ReadsBack of (saveOutcome of room .tables)
 unfolding saveOutcome readOutcome decided
-save-read of room a into p w =
+save-read of room a =
     let z = accepted-none (saveRefusal of (length room)) _ a in
     let s = save-accepted of (length room) z in
     let back = saved-file of (length room) z in
     rw (unless-accepted (saveRefusal of (length room)) room (linkFile of) z)
-    (sym (ends-accepted (readRefusal (length (into .parents)) (length (into .weights)) (linkFile of)) tt into (fileNet (linkFile of)) refl
-    (read-passes (linkFile of) (ap badCount p ∙ s .count) (w ∙ sym p) (link-file-length of (s .weights-right) ∙ ap (λ (n : ℕ). 8 * n) (sym p)) (back .0))
-    (sym (back .1))))
+    (record {
+      reads = λ into p w.
+          sym (ends-accepted (readRefusal (length (into .parents)) (length (into .weights)) (linkFile of)) tt into (fileNet (linkFile of)) refl
+          (read-passes (linkFile of) (ap badCount p ∙ s .count) (w ∙ sym p) (link-file-length of (s .weights-right) ∙ ap (λ (n : ℕ). 8 * n) (sym p)) (back .0))
+          (sym (back .1)));
+    })
 
 -- An accepted reading, saved into any table of 8 × n bytes, is accepted and leaves the file's own bytes.
 pub read-save : (of : Net) (bytes : List ℕ) → Below 256 bytes → readOutcome of bytes .verdict ≡ accepted tt
-    → (room : List ℕ) → length room ≡ 8 * length (of .parents)
-    → saveOutcome (readOutcome of bytes .tables) room ≡ ended (accepted tt) bytes
+    → SavesBack (length (of .parents)) bytes (readOutcome of bytes .tables)
 unfolding saveOutcome readOutcome decided
-read-save of bytes b a room e =
+read-save of bytes b a =
     let n = length (of .parents) in
     let z = accepted-none (readRefusal n (length (of .weights)) bytes) _ a in
     let l = read-accepted n (length (of .weights)) bytes z in
     let long = file-lengths bytes n (l .whole) in
     rw (unless-accepted (readRefusal n (length (of .weights)) bytes) of (fileNet bytes) z)
-    (sym (ends-accepted (saveRefusal (fileNet bytes) (length room)) tt room (linkFile (fileNet bytes)) refl
-    (save-passes (fileNet bytes) (ap badCount (long .0) ∙ l .count) (long .1 ∙ sym (long .0)) (e ∙ ap (λ (k : ℕ). 8 * k) (sym (long .0))) (read-undamaged n (length (of .weights)) bytes z))
-    (sym (file-back bytes n b (l .whole)))))
+    (record {
+      saves = λ room e.
+          sym (ends-accepted (saveRefusal (fileNet bytes) (length room)) tt room (linkFile (fileNet bytes)) refl
+          (save-passes (fileNet bytes) (ap badCount (long .0) ∙ l .count) (long .1 ∙ sym (long .0)) (e ∙ ap (λ (k : ℕ). 8 * k) (sym (long .0))) (read-undamaged n (length (of .weights)) bytes z))
+          (sym (file-back bytes n b (l .whole))));
+    })
 
 -- what an accepted reading leaves has the promise of the forest crate
 pub read-valid : (of : Net) (bytes : List ℕ) → readOutcome of bytes .verdict ≡ accepted tt → Valid (readOutcome of bytes .tables)

@@ -12,14 +12,14 @@ use borrow.Author.Tests.{ltb-true, lt-ltb}
 use Rattle.game.specs.Game.{absent}
 use Rattle.moved.specs.declared.Moved.{Moved}
 use Rattle.moved.specs.declared.Moved.the-variants.{Lowest, Nothing}
-use Rattle.moved.specs.Moved.{movedFrom, rankOf}
-use Rattle.moved.specs.Followed.{below, reread, lowerOf, Followed}
+use Rattle.moved.specs.Moved.{movedFrom, movedRank}
+use Rattle.moved.specs.Followed.{belowMoved, reread, lowerOf, Followed}
 use Rattle.moved.proofs.Differ.{differ-some, differ-moved, moved-none, moved-some, differ-still}
 
 -- a rank that an answer names
 named : {r s : ℕ} → Lowest r ≡ Lowest s → r ≡ s
-unfolding rankOf
-named e = ap rankOf e
+unfolding movedRank
+named e = ap movedRank e
 
 nowhere : {s : ℕ} → Nothing ≡ Lowest s → ⊥
 nowhere e = let z : _≡_ {A = ℕ} 0 1 = cc in omega arith
@@ -43,7 +43,7 @@ module _ {was is : List ℕ} (long : length is ≡ length was) (falls : (x : ℕ
   }
 
   some : (r : ℕ) → ((x : ℕ) → x < r → getD is x absent ≡ getD was x absent) → getD is r absent < getD was r absent → Followed (Lowest r) was is
-  unfolding below reread
+  unfolding belowMoved reread
   some r same low = record {
     falls = falls;
     kept = λ x h. same x (ltb-true x r h);
@@ -63,7 +63,7 @@ module _ {was is : List ℕ} (long : length is ≡ length was) (falls : (x : ℕ
 
 -- two calls, one after the other
 pub followed-on : {was is more : List ℕ} (m k : Moved) → length is ≡ length was → length more ≡ length is → Followed m was is → Followed k is more → Followed (lowerOf m k) was more
-unfolding lowerOf below
+unfolding lowerOf belowMoved
 followed-on {was} {is} {more} m k long longer f g = on m k f g
   where
     falls : (m k : Moved) → Followed m was is → Followed k is more → (x : ℕ) → getD more x absent ≤ getD was x absent

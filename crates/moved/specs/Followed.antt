@@ -12,9 +12,9 @@ use Rattle.moved.specs.declared.Moved.{Moved}
 use Rattle.moved.specs.declared.Moved.the-variants.{Lowest, Nothing}
 
 -- the ranks below where the forest moved: all, if it did not
-unfoldable pub below : Moved → ℕ → Bool
-below (Lowest r) x = ltb x r
-below Nothing x = true
+unfoldable pub belowMoved : Moved → ℕ → Bool
+belowMoved (Lowest r) x = ltb x r
+belowMoved Nothing x = true
 
 -- the old table, reread from there on
 unfoldable pub reread : Moved → (was is : List ℕ) → List ℕ
@@ -31,6 +31,6 @@ lowerOf Nothing m = m
 pub record Followed (m : Moved) (was is : List ℕ) : Type 0 where
   -- parents only fall, absent being the highest
   pub falls : (x : ℕ) → getD is x absent ≤ getD was x absent
-  pub kept : (x : ℕ) → below m x ≡ true → getD is x absent ≡ getD was x absent
+  pub kept : (x : ℕ) → belowMoved m x ≡ true → getD is x absent ≡ getD was x absent
   pub moves : (x : ℕ) → m ≡ Lowest x → getD is x absent < getD was x absent
   pub whole : reread m was is ≡ is

@@ -22,6 +22,6 @@ unfolding movedFrom
 moved was is = movedFrom 0 (was .parents) (is .parents)
 
 -- the answer as one number, for who has no such type: absent, where none moved
-unfoldable pub rankOf : Moved → ℕ
-rankOf (Lowest r) = r
-rankOf Nothing = absent
+unfoldable pub movedRank : Moved → ℕ
+movedRank (Lowest r) = r
+movedRank Nothing = absent

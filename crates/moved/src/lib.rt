@@ -5,7 +5,7 @@ ghost use mathlib.Core.Path.{_≡_};
 ghost use Prim.Native.Nat.{_<_, min, max};
 ghost use lib.ListN.{length, getD, set};
 ghost use Rattle.refusal.specs.Verdict.{accepted as acceptedWith};
-ghost use Rattle.moved.specs.Moved.{rankOf};
+ghost use Rattle.moved.specs.Moved.{movedRank};
 ghost use Rattle.moved.specs.Answer.{verdict};
 ghost use Rattle.moved.specs.Steps.{movedAt, movedWith};
 
@@ -21,20 +21,6 @@ pub enum GrowthAnswer {
     Refused(u32),
 }
 
-// The lower of two vertices. Absent is the higher of any two.
-pub fn lower(a: u32, b: u32) -> u32
-    ensures { λ r. ⌜ r ≡ min a b ⌝ }
-{
-    if b < a { b } else { a }
-}
-
-// The higher of two vertices.
-pub fn higher(a: u32, b: u32) -> u32
-    ensures { λ r. ⌜ r ≡ max a b ⌝ }
-{
-    if a < b { b } else { a }
-}
-
 // The lowest vertex that moved, of those so far and w, which is about to get the parent y. Where a lower one has moved, the old parent of w
 // need not be read, and so need not be waited for.
 fn lowest_with(w: u32, y: u32, parents: &[u32], moved: u32) -> u32
@@ -48,7 +34,7 @@ fn lowest_with(w: u32, y: u32, parents: &[u32], moved: u32) -> u32
     if parents[at] == y {
         return moved;
     }
-    lower(moved, w)
+    table::smaller(moved, w)
 }
 
 // Makes y the parent of w, which has the parent from before still. Answers the lowest vertex that moved, of those so far and w.
@@ -81,8 +67,8 @@ pub fn accepted(lowest: u32) -> GrowthAnswer
 }
 
 // The answer as one number: absent, where none moved.
-pub fn rank(moved: Moved) -> u32
-    ensures { λ r. ⌜ r ≡ rankOf moved ⌝ }
+pub fn moved_rank(moved: Moved) -> u32
+    ensures { λ r. ⌜ r ≡ movedRank moved ⌝ }
 {
     match moved {
         Moved::Lowest(rank) => rank,

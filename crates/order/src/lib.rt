@@ -23,7 +23,7 @@ fn contains(set: &[u32], v: usize) -> bool
 }
 
 // Puts a vertex into a set. It is not there yet, so its bit is set by a sum.
-fn insert(set: &mut [u32], v: usize)
+fn insert_vertex(set: &mut [u32], v: usize)
     requires { ⌜ (length (now set) ≡ setWords) × (v < maxVertices) × (bitAt (now set) v ≡ 0) ⌝ }
     ensures { λ _. ⌜ now (set .exit) ≡ setBit (now (set .entry)) v ⌝ }
 {
@@ -49,7 +49,7 @@ pub fn bad_order(order: &[u32]) -> bool
         if contains(&later, v) {
             return true;
         }
-        insert(&mut later, v);
+        insert_vertex(&mut later, v);
     }
     false
 }

@@ -16,35 +16,35 @@ use borrow.Author.Tests.{eq-eqb, ne-eqb}
 use Rattle.game.specs.Table.{sum}
 use Rattle.game.proofs.Tables.{sum-zeros, sum-set}
 use Rattle.game.proofs.Bools.{test-cases}
-use Rattle.pack.specs.Pack.{put, loadsBelow, blockOf}
+use Rattle.pack.specs.Pack.{withLoad, loadsBelow, blockOf}
 use Rattle.cut.proofs.Lists.{stretch}
 use Rattle.pack.proofs.Lightest.{Lightest, lightest-is}
 use Rattle.groups.proofs.Sums.{only, total, total-grown}
 
 -- one group put into a block
 module _ (loads : List ℕ) (j v : ℕ) where
-  put-length : length (put loads j v) ≡ length loads
-  unfolding put
-  put-length = length-set loads j (getD loads j 0 + v)
+  with-load-length : length (withLoad loads j v) ≡ length loads
+  unfolding withLoad
+  with-load-length = length-set loads j (getD loads j 0 + v)
 
-  pub put-here : j < length loads → getD (put loads j v) j 0 ≡ getD loads j 0 + v
-  unfolding put
-  put-here h = getD-set-same loads j (getD loads j 0 + v) 0 h
+  pub with-load-here : j < length loads → getD (withLoad loads j v) j 0 ≡ getD loads j 0 + v
+  unfolding withLoad
+  with-load-here h = getD-set-same loads j (getD loads j 0 + v) 0 h
 
-  put-other : (i : ℕ) → i ≢ j → getD (put loads j v) i 0 ≡ getD loads i 0
-  unfolding put
-  put-other i d = getD-set-other loads j i (getD loads j 0 + v) 0 d
+  with-load-other : (i : ℕ) → i ≢ j → getD (withLoad loads j v) i 0 ≡ getD loads i 0
+  unfolding withLoad
+  with-load-other i d = getD-set-other loads j i (getD loads j 0 + v) 0 d
 
-  put-sum : j < length loads → sum (put loads j v) ≡ sum loads + v
-  unfolding put
-  put-sum h = omega (arith, sum-set loads j (getD loads j 0 + v) h)
+  with-load-sum : j < length loads → sum (withLoad loads j v) ≡ sum loads + v
+  unfolding withLoad
+  with-load-sum h = omega (arith, sum-set loads j (getD loads j 0 + v) h)
 
 module _ (tops : ℕ → Bool) (c : ℕ → ℕ) (k : ℕ) where
   pub pack-none : loadsBelow tops c k 0 ≡ replicate k 0
   unfolding loadsBelow
   pack-none = refl
 
-  pub pack-on : (m : ℕ) → tops m ≡ true → loadsBelow tops c k (suc m) ≡ put (loadsBelow tops c k m) (blockOf tops c k m) (c m)
+  pub pack-on : (m : ℕ) → tops m ≡ true → loadsBelow tops c k (suc m) ≡ withLoad (loadsBelow tops c k m) (blockOf tops c k m) (c m)
   unfolding blockOf
   pack-on m e = rw e
 
@@ -57,7 +57,7 @@ module _ (tops : ℕ → Bool) (c : ℕ → ℕ) (k : ℕ) where
   loads-length zero = length-replicate k 0
   loads-length (suc m) =
       test-cases (tops m)
-      (λ e. ap length (pack-on m e) ∙ put-length (loadsBelow tops c k m) (blockOf tops c k m) (c m) ∙ loads-length m)
+      (λ e. ap length (pack-on m e) ∙ with-load-length (loadsBelow tops c k m) (blockOf tops c k m) (c m) ∙ loads-length m)
       (λ e. ap length (pack-pass m e) ∙ loads-length m)
 
   module _ (some : 0 < k) where
@@ -78,7 +78,7 @@ module _ (tops : ℕ → Bool) (c : ℕ → ℕ) (k : ℕ) where
         more : (m : ℕ) → sum (loadsBelow tops c k (suc m)) ≡ sum (loadsBelow tops c k m) + only (tops m) (c m)
         more m =
             test-cases (tops m)
-            (λ e. rw (pack-on m e, e) (put-sum (loadsBelow tops c k m) (blockOf tops c k m) (c m) (block-lightest m .inside)))
+            (λ e. rw (pack-on m e, e) (with-load-sum (loadsBelow tops c k m) (blockOf tops c k m) (c m) (block-lightest m .inside)))
             (λ e. rw (pack-pass m e, e) (sym (add-zero (sum (loadsBelow tops c k m)))))
 
     -- each load comes to what the tops of its block carry
@@ -96,10 +96,10 @@ module _ (tops : ℕ → Bool) (c : ℕ → ℕ) (k : ℕ) where
             by-cases (ℕ-discrete j (blockOf tops c k m))
             (λ (q : j ≡ blockOf tops c k m).
             rw (pack-on m e, e, q, eq-eqb (blockOf tops c k m) (blockOf tops c k m) refl)
-            (put-here (loadsBelow tops c k m) (blockOf tops c k m) (c m) (block-lightest m .inside)))
+            (with-load-here (loadsBelow tops c k m) (blockOf tops c k m) (c m) (block-lightest m .inside)))
             (λ (d : j ≢ blockOf tops c k m).
             rw (pack-on m e, e, ne-eqb (blockOf tops c k m) j (λ f. d (sym f)))
-            (put-other (loadsBelow tops c k m) (blockOf tops c k m) (c m) j d ∙ sym (add-zero (getD (loadsBelow tops c k m) j 0)))))
+            (with-load-other (loadsBelow tops c k m) (blockOf tops c k m) (c m) j d ∙ sym (add-zero (getD (loadsBelow tops c k m) j 0)))))
             (λ e. rw (pack-pass m e, e) (sym (add-zero (getD (loadsBelow tops c k m) j 0))))
 
     -- no load is above another by more than the heaviest group
@@ -118,11 +118,11 @@ module _ (tops : ℕ → Bool) (c : ℕ → ℕ) (k : ℕ) where
         b = blockOf tops c k m
 
         new : List ℕ
-        new = put was b (c m)
+        new = withLoad was b (c m)
 
         grown : (v : ℕ) → (v ≡ b) ⊎ (v ≢ b) → (getD new v 0 ≡ getD was v 0) ⊎ ((v ≡ b) × (getD new v 0 ≡ getD was v 0 + c m))
-        grown v (inl e) = inr (e, rw e (put-here was b (c m) (block-lightest m .inside)))
-        grown v (inr d) = inl (put-other was b (c m) v d)
+        grown v (inl e) = inr (e, rw e (with-load-here was b (c m) (block-lightest m .inside)))
+        grown v (inr d) = inl (with-load-other was b (c m) v d)
 
         cases : (v : ℕ) → (getD new v 0 ≡ getD was v 0) ⊎ ((v ≡ b) × (getD new v 0 ≡ getD was v 0 + c m))
         cases v = grown v (by-cases (ℕ-discrete v b) (λ e. inl e) (λ d. inr d))

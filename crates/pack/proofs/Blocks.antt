@@ -17,11 +17,11 @@ use Rattle.game.proofs.Tables.{sum-entry, tabulate-unique}
 use Rattle.refusal.specs.Limits.{maxTotal}
 use Rattle.refusal.specs.DivisionLimits.{maxBlocks}
 use Rattle.pack.specs.Lightest.{lightest}
-use Rattle.pack.specs.Pack.{put, loadsBelow, blockOf}
+use Rattle.pack.specs.Pack.{withLoad, loadsBelow, blockOf}
 use Rattle.pack.specs.PackingSteps.{Packable, Packed, Topped, Assigned}
 use Rattle.groups.proofs.Sums.{only, total-more}
 use Rattle.cut.proofs.Carried.{entry}
-use Rattle.pack.proofs.BlockLoads.{pack-none, pack-on, pack-pass, loads-length, loads-sum, block-inside, put-here}
+use Rattle.pack.proofs.BlockLoads.{pack-none, pack-on, pack-pass, loads-length, loads-sum, block-inside, with-load-here}
 
 -- who is a top, by the table of tops
 abbrev pub topIn : List ℕ → ℕ → Bool
@@ -89,7 +89,7 @@ module _ {tops carried block₀ loads₀ : List ℕ} (g : Packable tops carried 
       pub packs-inside : b < length loads
       packs-inside = omega (arith, chosen, packs-length, block-inside (topIn tops) (entry carried) (length loads₀) (g .some) x)
 
-      on : loadsBelow (topIn tops) (entry carried) (length loads₀) (suc x) ≡ put loads b (getD carried x 0)
+      on : loadsBelow (topIn tops) (entry carried) (length loads₀) (suc x) ≡ withLoad loads b (getD carried x 0)
       on = pack-on (topIn tops) (entry carried) (length loads₀) x (eq-eqb (getD tops x 0) x e) ∙ rw (← t .table, ← chosen) refl
 
       pub packs-fits : getD loads b 0 + getD carried x 0 ≤ maxTotal
@@ -97,8 +97,8 @@ module _ {tops carried block₀ loads₀ : List ℕ} (g : Packable tops carried 
       packs-fits =
           omega (
             arith,
-            put-here loads b (getD carried x 0) packs-inside,
-            sum-entry (put loads b (getD carried x 0)) b,
+            with-load-here loads b (getD carried x 0) packs-inside,
+            sum-entry (withLoad loads b (getD carried x 0)) b,
             ap sum on,
             loads-sum (topIn tops) (entry carried) (length loads₀) (g .some) (suc x),
             total-more (λ y. only (topIn tops y) (entry carried y)) (suc x) (length tops) l,
@@ -107,7 +107,7 @@ module _ {tops carried block₀ loads₀ : List ℕ} (g : Packable tops carried 
 
       pub packs-more : {block′ loads′ : List ℕ} → block′ ≡ set block x b → loads′ ≡ set loads b (getD loads b 0 + getD carried x 0)
           → Packs tops carried (length loads₀) (x + 1) block′ loads′
-      unfolding put
+      unfolding withLoad
       packs-more p q =
           record {
             within = omega arith;

@@ -10,16 +10,16 @@ use lib.ListN.{getD, set, replicate}
 use Rattle.pack.specs.Lightest.{lightest}
 
 -- a group of weight v put into block j
-unfoldable pub put : List ℕ → ℕ → ℕ → List ℕ
-put loads j v = set loads j (getD loads j 0 + v)
+unfoldable pub withLoad : List ℕ → ℕ → ℕ → List ℕ
+withLoad loads j v = set loads j (getD loads j 0 + v)
 
 -- the loads of k blocks once the groups with a top below m are packed; isTop tells the tops, c the weight of a top's group
 unfoldable pub loadsBelow : (ℕ → Bool) → (ℕ → ℕ) → ℕ → ℕ → List ℕ
-unfolding lightest put
+unfolding lightest withLoad
 loadsBelow isTop c k zero = replicate k 0
 loadsBelow isTop c k (suc x) =
     let loads : List ℕ = loadsBelow isTop c k x in
-    let after : List ℕ = put loads (lightest loads) (c x) in
+    let after : List ℕ = withLoad loads (lightest loads) (c x) in
     cond (isTop x) after loads
 
 -- the block that the group with top x goes into

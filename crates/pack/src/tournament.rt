@@ -21,7 +21,7 @@ fn key_of(load: u32, block: usize) -> u64
     load as u64 * NUMBERS + block as u64
 }
 
-fn lower(a: u64, b: u64) -> u64
+fn lighter(a: u64, b: u64) -> u64
     ensures { λ r. ⌜ Lower a b r ⌝ }
 {
     if b < a { b } else { a }
@@ -44,7 +44,7 @@ pub fn start(blocks: usize, nodes: &mut [u64])
     while 1 < i {
         i -= 1;
         if i < blocks {
-            nodes[i] = lower(nodes[2 * i], nodes[2 * i + 1]);
+            nodes[i] = lighter(nodes[2 * i], nodes[2 * i + 1]);
         } else {
             nodes[i] = (i - blocks) as u64;
         }
@@ -64,7 +64,7 @@ pub fn replay(loads: &[u32], block: usize, nodes: &mut [u64]) -> usize
     }
     nodes[i] = least;
     while 1 < i {
-        least = lower(least, nodes[sibling(i)]);
+        least = lighter(least, nodes[sibling(i)]);
         i /= 2;
         nodes[i] = least;
     }

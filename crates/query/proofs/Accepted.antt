@@ -10,7 +10,7 @@ use borrow.Author.Tests.{not-false, leb-false}
 use Rattle.refusal.proofs.First.{first-none, given-none, unless-refused, unless-accepted}
 use Rattle.index.specs.Index.{Index, vertices}
 use Rattle.query.specs.declared.Place.{Place}
-use Rattle.query.specs.Query.{queryRefusal, place, queryPlace, answered, queryOutcome}
+use Rattle.query.specs.Query.{queryRefusal, placeOf, queryPlace, answered, queryOutcome}
 use Rattle.query.proofs.Rising.{rises-entries}
 
 pub record Queryable (t : Index) (v : ℕ) : Type 0 where
@@ -31,12 +31,12 @@ query-accepted t v z =
 
 -- Where the part that is handed back stands: nowhere, if the query is refused, else where the run does.
 module _ (t : Index) (v : ℕ) {k : ℕ} (e : k ≡ queryRefusal t v) where
-  pub place-refused : (k ≡ 0 → ⊥) → place k 0 0 ≡ queryPlace t v
+  pub place-refused : (k ≡ 0 → ⊥) → placeOf k 0 0 ≡ queryPlace t v
   unfolding queryPlace
   place-refused d =
       rw (← e, unless-refused k 0 (getD (t .starts) v 0) d, unless-refused k 0 (getD (t .starts) (v + 1) 0 - getD (t .starts) v 0) d) refl
 
-  pub place-accepted : {at : ℕ} → k ≡ 0 → at ≡ v → place k (getD (t .starts) at 0) (getD (t .starts) (at + 1) 0 - getD (t .starts) at 0) ≡ queryPlace t v
+  pub place-accepted : {at : ℕ} → k ≡ 0 → at ≡ v → placeOf k (getD (t .starts) at 0) (getD (t .starts) (at + 1) 0 - getD (t .starts) at 0) ≡ queryPlace t v
   unfolding queryPlace
   place-accepted z a =
       rw (← e, a, unless-accepted k 0 (getD (t .starts) v 0) z, unless-accepted k 0 (getD (t .starts) (v + 1) 0 - getD (t .starts) v 0) z) refl

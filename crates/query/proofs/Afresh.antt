@@ -5,19 +5,19 @@ use mathlib.Core.Bool.{false}
 use mathlib.Core.List.{List, [], _++_, append-nil}
 use Prim.Native.Nat.{ℕ}
 use Rattle.game.specs.Edge.{edges}
-use Rattle.refusal.specs.Refusal.{odd}
+use Rattle.refusal.specs.Refusal.{notWhole}
 use Rattle.game.proofs.Edges.{edges-append}
 use Rattle.refusal.proofs.First.{first-same, list-even, odd-append, pass}
 use Rattle.index.specs.Index.{Index}
 use Rattle.index.specs.Build.{indexRefusal, indexOutcome}
 
-module _ (t : Index) (old added : List ℕ) (whole : odd old ≡ false) where
+module _ (t : Index) (old added : List ℕ) (whole : notWhole old ≡ false) where
   both : edges (old ++ added) ++ edges [] ≡ edges old ++ edges added
   unfolding edges
   both = append-nil (edges (old ++ added)) ∙ edges-append old added (list-even old whole)
 
   same-refusal : indexRefusal t old added ≡ indexRefusal t (old ++ added) []
-  unfolding indexRefusal odd
+  unfolding indexRefusal notWhole
   same-refusal =
       rw (both, odd-append old added (list-even old whole))
       (first-same _ _ _ (first-same _ _ _ (pass _ _ whole ∙ sym (first-same _ _ _ (pass _ _ refl)))))

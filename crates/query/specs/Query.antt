@@ -32,15 +32,15 @@ queryRefusal t v =
     ∷ given (leb (vertices t) v) 4
     ∷ [])
 
-abbrev pub place : (number first count : ℕ) → Place
-place number first count = record { number = number; first = first; count = count }
+abbrev pub placeOf : (number first count : ℕ) → Place
+placeOf number first count = record { number = number; first = first; count = count }
 
 -- where the part that is handed back stands in the index: where the run of v does, or nowhere
 unfoldable pub queryPlace : Index → (v : ℕ) → Place
 queryPlace t v =
     let k : ℕ = queryRefusal t v in
     let start : ℕ = getD (t .starts) v 0 in
-    place k (unless k 0 start) (unless k 0 (getD (t .starts) (v + 1) 0 - start))
+    placeOf k (unless k 0 start) (unless k 0 (getD (t .starts) (v + 1) 0 - start))
 
 -- what a query hands back: the part of the index, and the number in the cell
 pub record Answered : Type 0 where

@@ -15,7 +15,7 @@ pub struct Place {
 }
 
 // Whether the starts go from 0 up to the end without falling. A scan to the last is quicker than one that stops.
-fn is_rising(starts: &[u32], end: usize) -> bool
+fn starts_rise(starts: &[u32], end: usize) -> bool
     requires { ⌜ 0 < length (now starts) ⌝ }
     ensures { λ r. ⌜ r ≡ rises end (now (starts .entry)) ⌝ }
 {
@@ -39,7 +39,7 @@ fn query_refusal(starts: &[u32], neighbours: &[u32], rank: u32) -> u32
     if refusal::bad_count(n) {
         return 1;
     }
-    if !is_rising(starts, neighbours.len()) {
+    if !starts_rise(starts, neighbours.len()) {
         return 30;
     }
     if n <= wide(rank) {

@@ -18,11 +18,11 @@ use Rattle.game.proofs.Tables.{member-in, tabulate-length, tabulate-entry, tabu
 use Rattle.game.proofs.Proper.{proper-head, proper-tail, linked-ends, linked-tail, same, turned, edge-left, edge-right}
 use Rattle.game.proofs.Sound.{Sound, sound-parent, getD-default}
 use Rattle.game.proofs.Links.{link-of}
-use Rattle.game.proofs.Order.{same-proper, forest-order}
+use Rattle.game.proofs.Order.{same-proper, forest-order, same-length}
 use Rattle.game.proofs.Climbs.{Climbs, top, up}
 use Rattle.game.proofs.Forest.{forest-sound}
 use Rattle.game.proofs.Ancestors.{ancestor-above, edge-ends}
-use Rattle.game.proofs.Weights.{share, share-one, sum-share}
+use Rattle.game.proofs.Weights.{charged, charged-one, sum-charged}
 use Rattle.game.specs.Net.{reach}
 use Rattle.bucket.specs.Filed.{Consecutive, inBuckets, Filed}
 use Rattle.bucket.proofs.Reading.{filed-consecutive}
@@ -81,7 +81,7 @@ counts-sum {n} {es = []} proper = ap sum (tabulate-const n (lowerCount []) 0 (λ
 counts-sum {n} {es = (a ─ b) ∷ es} proper =
     let (ha, hb, d) = proper-head proper in
     let one : sum (tabulate n (λ (x : ℕ). one-if (eqb (min a b) x))) ≡ 1 =
-    ap sum (tabulate-ext n _ (share 1 (min a b)) (λ x h. sym (share-one (min a b) x))) ∙ sum-share 1 n (min a b) (omega arith) in
+    ap sum (tabulate-ext n _ (charged 1 (min a b)) (λ x h. sym (charged-one (min a b) x))) ∙ sum-charged 1 n (min a b) (omega arith) in
     omega (arith, sum-tabulate-add n (λ (x : ℕ). one-if (eqb (min a b) x)) (lowerCount es), one, counts-sum (proper-tail proper))
 
 -- the same edges in another order are counted alike
@@ -92,13 +92,6 @@ lower-count-order (keep {e = e} s) x = ap (λ (k : ℕ). one-if (eqb (lower e) x
 lower-count-order (flip {a = a} {b = b} s) x = rw (lower-count-order s x, min-comm a b)
 lower-count-order (swap {e = e} {f = f} {es = es}) x = add-left-comm (one-if (eqb (lower e) x)) (one-if (eqb (lower f) x)) (lowerCount es x)
 lower-count-order (trans s t) x = lower-count-order s x ∙ lower-count-order t x
-
-same-length : {es fs : List Edge} → Same es fs → length es ≡ length fs
-same-length nil = refl
-same-length (keep s) = ap suc (same-length s)
-same-length (flip s) = ap suc (same-length s)
-same-length swap = refl
-same-length (trans s t) = same-length s ∙ same-length t
 
 -- so what is given of a list is given of the same edges in another order
 pub given-order : {p w : List ℕ} {es fs : List Edge} → Same es fs → Given p w es → Given p w fs
@@ -120,7 +113,7 @@ module _ {p w : List ℕ} {es : List Edge} (g : Given p w es) where
   short : length p ≤ absent
   short = let v = g .vertices in omega arith
 
-  -- there is one share for each edge
+  -- there is one charged for each edge
   pub net-total : sum w ≡ length es
   net-total = ap sum (g .counts) ∙ counts-sum (g .proper)
 

@@ -10,25 +10,14 @@ use native.Mathlib.Decide.{decLe}
 use native.Mathlib.Omega.{arith}
 use lib.Dec.{eqb}
 use Rattle.game.specs.Edge.{Edge, _─_, lower, upper}
-use Rattle.game.specs.Graph.{Same, nil, keep, flip, swap, trans}
+use Rattle.game.specs.Graph.{Same}
 use Rattle.game.specs.Table.{one-if, count, some-entry}
 use Rattle.game.specs.Tree.{ancestors, under}
 use Rattle.game.specs.Net.{enters, reach}
-use Rattle.game.proofs.Bools.{bool-iff}
+use Rattle.game.proofs.Bools.{bool-iff, or-comm}
+use Rattle.game.proofs.Order.{some-order}
 use Rattle.reach_slots.specs.InSlots.{upward}
 use Rattle.reach_slots.proofs.Counts.{entry-some, some-entry-in, count-ext}
-
-or-comm : (a b : Bool) → (a || b) ≡ (b || a)
-or-comm true true = refl
-or-comm true false = refl
-or-comm false true = refl
-or-comm false false = refl
-
-or-swap : (a b c : Bool) → (a || (b || c)) ≡ (b || (a || c))
-or-swap true true c = refl
-or-swap true false c = refl
-or-swap false true c = refl
-or-swap false false c = refl
 
 module _ (p : List ℕ) where
   -- which way round an edge is written does not matter
@@ -63,18 +52,10 @@ module _ (p : List ℕ) where
       ∙ some-upward x y fs)
 
   -- the same edges, in any order and each either way round
-  some-order : (x y : ℕ) {es fs : List Edge} → Same es fs → some-entry (enters p x y) es ≡ some-entry (enters p x y) fs
-  unfolding some-entry
-  some-order x y nil = refl
-  some-order x y (keep {e = e} s) = ap (λ b. enters p x y e || b) (some-order x y s)
-  some-order x y (flip {a = a} {b = b} s) = ap₂ (λ c d. c || d) (enters-turn x y b a) (some-order x y s)
-  some-order x y (swap {e = e} {f = f} {es = es}) = or-swap (enters p x y e) (enters p x y f) (some-entry (enters p x y) es)
-  some-order x y (trans s t) = some-order x y s ∙ some-order x y t
-
   pub reach-order : {es fs : List Edge} → Same es fs → (x : ℕ) → reach p es x ≡ reach p fs x
   unfolding reach
   reach-order {es} {fs} s x =
-      count-ext (λ y. some-entry (enters p x y) es) (λ y. some-entry (enters p x y) fs) (ancestors p x) (λ y m. some-order x y s)
+      count-ext (λ y. some-entry (enters p x y) es) (λ y. some-entry (enters p x y) fs) (ancestors p x) (λ y m. some-order (enters p x y) (enters-turn x y) s)
 
 count-never : {A : Type 0} (xs : List A) → count (λ (a : A). false) xs ≡ 0
 unfolding count one-if

@@ -1,8 +1,8 @@
 // Where the paths of the edges end, counted over the slots in order.
-use crate::add;
-use crate::at;
-use crate::put;
 use net::Net;
+use table::add_at;
+use table::read_at;
+use table::write_at;
 ghost use mathlib.Core.Path.{_≡_};
 ghost use mathlib.Core.List.{List};
 ghost use Prim.Native.Nat.{ℕ, _+_, _<_};
@@ -24,12 +24,12 @@ fn path_end(k: u32, v: u32, y: u32, ends: &[u32], ancestor: &mut [u32]) -> u32
         return y;
     }
     let mut r = v;
-    while at(ends, r) <= k {
-        let q = at(ancestor, r);
-        if k < at(ends, q) {
+    while read_at(ends, r) <= k {
+        let q = read_at(ancestor, r);
+        if k < read_at(ends, q) {
             return q;
         }
-        let next = at(ancestor, q);
+        let next = read_at(ancestor, q);
         let i = r as usize;
         ancestor[i] = next;
         r = next;
@@ -59,16 +59,16 @@ fn visit(
     let mut u: u32 = 0;
     let mut stop: u32 = 0;
     while (k as usize) < slots.len() {
-        let mut y = at(slots, k);
+        let mut y = read_at(slots, k);
         if k == stop {
             u = y;
-            stop = k + at(counts, u);
-            y = at(first, u);
+            stop = k + read_at(counts, u);
+            y = read_at(first, u);
         }
-        let v = at(previous, y);
+        let v = read_at(previous, y);
         let r = path_end(k, v, y, ends, ancestor);
-        add(overlaps, r, 1);
-        put(previous, y, u);
+        add_at(overlaps, r, 1);
+        write_at(previous, y, u);
         k += 1;
     }
 }

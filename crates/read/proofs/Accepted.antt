@@ -11,13 +11,13 @@ use Rattle.records.specs.LinkFile.{fileNet}
 use Rattle.read.specs.Read.{unfit, readRefusal}
 
 -- a file that was read into tables of n parents and m weights
-pub record Loaded (n m : ℕ) (bytes : List ℕ) : Type 0 where
+pub record FileFits (n m : ℕ) (bytes : List ℕ) : Type 0 where
   pub count : badCount n ≡ false
   pub weights-right : m ≡ n
   pub whole : length bytes ≡ 8 * n
   pub fit : unfit (fileNet bytes) ≡ 0
 
-pub read-accepted : (n m : ℕ) (bytes : List ℕ) → readRefusal n m bytes ≡ 0 → Loaded n m bytes
+pub read-accepted : (n m : ℕ) (bytes : List ℕ) → readRefusal n m bytes ≡ 0 → FileFits n m bytes
 unfolding readRefusal
 read-accepted n m bytes e =
     let a = first-none _ _ e in

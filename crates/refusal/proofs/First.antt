@@ -1,6 +1,6 @@
 -- Laws of `first`, `given` and `unless`: what a chain of early returns shows, and what an accepted call knows.
 -- Assumes nothing.
-use mathlib.Core.Path.{_≡_, refl}
+use mathlib.Core.Path.{_≡_, refl, sym, ap₂, _∙_}
 use mathlib.Core.Bool.{Bool, true, false}
 use mathlib.Core.List.{List, [], _∷_, _++_}
 use Prim.Native.Nat.{ℕ, zero, suc, _%_, _≤_, _<_}
@@ -11,7 +11,7 @@ use lib.ListN.{length, length-append}
 use borrow.Author.Tests.{eq-eqb, ne-eqb, eqb-true, eqb-false, ltb-false, not-false}
 use Rattle.game.proofs.Bools.{or-neither}
 use Rattle.refusal.specs.Limits.{maxVertices}
-use Rattle.refusal.specs.Refusal.{given, first, unless, wrongLength, odd, badCount}
+use Rattle.refusal.specs.Refusal.{given, first, unless, wrongLength, notWhole, badCount}
 
 -- a test that does not apply is passed over
 pub first-pass : (k : ℕ) (ks : List ℕ) → k ≡ 0 → first (k ∷ ks) ≡ first ks
@@ -72,6 +72,11 @@ unfolding unless
 unless-part f zero was new = refl
 unless-part f (suc k) was new = refl
 
+-- two of them look alike in part, where the numbers are the same and the new tables look alike there
+pub unless-alike : {A B : Type 0} (f : A → B) (was : A) {j k : ℕ} {one other : A} → j ≡ k → f one ≡ f other → f (unless j was one) ≡ f (unless k was other)
+unless-alike f was {j} {k} {one} {other} e h =
+    unless-part f j was one ∙ ap₂ (λ i t. unless i (f was) t) e h ∙ sym (unless-part f k was other)
+
 -- the same for a test and its number
 pub pass : {t : Bool} (k : ℕ) (ks : List ℕ) → t ≡ false → first (given t k ∷ ks) ≡ first ks
 pass {t} k ks e = first-pass (given t k) ks (given-false t k e)
@@ -94,21 +99,21 @@ unfolding wrongLength
 length-right has needs e = eqb-true has needs (not-false (eqb has needs) e)
 
 -- a list of even length, or odd
-pub even-list : (xs : List ℕ) → length xs % 2 ≡ 0 → odd xs ≡ false
-unfolding odd
+pub even-list : (xs : List ℕ) → length xs % 2 ≡ 0 → notWhole xs ≡ false
+unfolding notWhole
 even-list xs e = rw (eq-eqb (length xs % 2) 0 e)
 
-pub odd-list : (xs : List ℕ) → (length xs % 2 ≡ 0 → ⊥) → odd xs ≡ true
-unfolding odd
+pub odd-list : (xs : List ℕ) → (length xs % 2 ≡ 0 → ⊥) → notWhole xs ≡ true
+unfolding notWhole
 odd-list xs d = rw (ne-eqb (length xs % 2) 0 d)
 
-pub list-even : (xs : List ℕ) → odd xs ≡ false → length xs % 2 ≡ 0
-unfolding odd
+pub list-even : (xs : List ℕ) → notWhole xs ≡ false → length xs % 2 ≡ 0
+unfolding notWhole
 list-even xs e = eqb-true (length xs % 2) 0 (not-false (eqb (length xs % 2) 0) e)
 
 -- a list of even length before another
-pub odd-append : (xs ys : List ℕ) → length xs % 2 ≡ 0 → odd (xs ++ ys) ≡ odd ys
-unfolding odd
+pub odd-append : (xs ys : List ℕ) → length xs % 2 ≡ 0 → notWhole (xs ++ ys) ≡ notWhole ys
+unfolding notWhole
 odd-append xs ys h =
     let e : length (xs ++ ys) % 2 ≡ length ys % 2 = omega (arith, length-append xs ys) in
     rw e refl

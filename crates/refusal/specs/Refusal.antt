@@ -34,9 +34,9 @@ badCount n = eqb n 0 || ltb maxVertices n
 unfoldable pub wrongLength : ℕ → ℕ → Bool
 wrongLength has needs = not (eqb has needs)
 
--- 2 too: "a tie list of odd length"
-unfoldable pub odd : List ℕ → Bool
-odd xs = not (eqb (length xs % stride) 0)
+-- 2 too: "a tie list of odd length": the numbers do not make whole edges
+unfoldable pub notWhole : List ℕ → Bool
+notWhole xs = not (eqb (length xs % stride) 0)
 
 -- 4: "a tie names n or more"; 5: "both ends of a tie are one mark"; "4 before 5"
 unfoldable pub fault : ℕ → Edge → ℕ

@@ -8,7 +8,7 @@ use Prim.Native.Nat.{ℕ, _%_, _≤_}
 use lib.ListN.{length}
 use Rattle.game.specs.Edge.{edges}
 use Rattle.refusal.specs.Limits.{maxVertices}
-use Rattle.refusal.specs.Refusal.{given, first, badCount, wrongLength, odd, firstFault}
+use Rattle.refusal.specs.Refusal.{given, first, badCount, wrongLength, notWhole, firstFault}
 use Rattle.refusal.proofs.First.{pass, stop, first-none, first-last, given-none, right-length, wrong-length, length-right, even-list, odd-list, list-even, good-count}
 use Rattle.order.specs.Order.{badOrder}
 use Rattle.relabel.specs.Relabel.{relabelRefusal}
@@ -66,8 +66,8 @@ pub relabel-known : (order xs : List ℕ) (out inverse : ℕ) {code : ℕ} → c
 unfolding relabelRefusal
 relabel-known order xs out inverse d e =
     let count = first-none (given (badCount (length order)) 1) _ (sym d ∙ e) in
-    let even = first-none (given (odd xs) 2) _ (count .1) in
-    let pairs = list-even xs (given-none (odd xs) 1 (even .0)) in
+    let even = first-none (given (notWhole xs) 2) _ (count .1) in
+    let pairs = list-even xs (given-none (notWhole xs) 1 (even .0)) in
     let same = first-none (given (wrongLength out (length xs)) 2) _ (even .1) in
     let whole = first-none (given (wrongLength inverse (length order)) 2) _ (same .1) in
     let good = first-none (given (badOrder order) 3) _ (whole .1) in

@@ -9,7 +9,7 @@ use mathlib.Core.List.{List, [], _∷_}
 use Prim.Native.Nat.{ℕ}
 use lib.ListN.{length}
 use Rattle.game.specs.Edge.{edges}
-use Rattle.refusal.specs.Refusal.{given, first, badCount, wrongLength, odd, firstFault}
+use Rattle.refusal.specs.Refusal.{given, first, badCount, wrongLength, notWhole, firstFault}
 use Rattle.refusal.specs.Outcome.{Done, done}
 use Rattle.order.specs.Order.{badOrder, rankOf, inverseOf}
 
@@ -33,7 +33,7 @@ unfoldable pub relabelRefusal : List ℕ → List ℕ → ℕ → ℕ → ℕ
 relabelRefusal order xs outLength inverseLength =
     first
     (given (badCount (length order)) 1
-    ∷ given (odd xs) 2
+    ∷ given (notWhole xs) 2
     ∷ given (wrongLength outLength (length xs)) 2
     ∷ given (wrongLength inverseLength (length order)) 2
     ∷ given (badOrder order) 3

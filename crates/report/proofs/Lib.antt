@@ -1,4 +1,6 @@
 -- Laws of the report, by subject. Nothing here needs to be believed: it is all proved.
+pub mod AnyOrder
+pub mod Bounded
 pub mod Outcome
 pub mod Own
 pub mod Refused

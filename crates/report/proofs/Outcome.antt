@@ -24,27 +24,27 @@ use Rattle.refusal.specs.Verdict.{accepted, refused, judged}
 use Rattle.refusal.specs.Outcome.{ended}
 use Rattle.refusal.proofs.Ends.{judged-accepted, judged-refused}
 use Rattle.report_write.specs.Written.{Written, figures}
-use Rattle.report_write.specs.Steps.{Reportable, Answered}
-use Rattle.report_refusal.specs.Refused.{earlyRefusal}
+use Rattle.report_write.specs.Steps.{Reportable, ReportWritten}
+use Rattle.report_refusal.specs.Refused.{reportEarly}
 use Rattle.report.specs.Report.{Lent, lent, wrongLent, reportRefusal, reportOutcome}
 use Rattle.compare.proofs.Unlike.{same-passes, found-own, found-other}
 use Rattle.report.proofs.Refused.{ready}
 
 module _ (of : Net) (B k : ℕ) (xs : List ℕ) (was : Lent) where
   early : ℕ
-  early = earlyRefusal of B k xs (wrongLent of k xs was)
+  early = reportEarly of B k xs (wrongLent of k xs was)
 
   late : ℕ
   late = unlike of (edges xs)
 
   -- refused before the comparison: the number, and every table as it was
-  pub ends-early : {code : ℕ} {wrong : Bool} → code ≡ earlyRefusal of B k xs wrong → wrong ≡ wrongLent of k xs was → (code ≡ 0 → ⊥)
+  pub ends-early : {code : ℕ} {wrong : Bool} → code ≡ reportEarly of B k xs wrong → wrong ≡ wrongLent of k xs was → (code ≡ 0 → ⊥)
       → ended (refused code) was ≡ reportOutcome of B k xs was
   unfolding reportOutcome reportRefusal early late
   ends-early {code} e w h = ap₂ ended (sym number) (sym (unless-refused early was _ some))
     where
       is : code ≡ early
-      is = e ∙ ap (earlyRefusal of B k xs) w
+      is = e ∙ ap (reportEarly of B k xs) w
 
       some : early ≡ 0 → ⊥
       some z = h (is ∙ z)
@@ -54,7 +54,7 @@ module _ (of : Net) (B k : ℕ) (xs : List ℕ) (was : Lent) where
           ap (λ (m : ℕ). judged m (totalsOf of (edges xs) B k)) (first-stop early (late ∷ []) some)
           ∙ judged-refused early _ some ∙ ap refused (sym is)
 
-  module _ (z : earlyRefusal of B k xs (wrongLent of k xs was) ≡ 0) where
+  module _ (z : reportEarly of B k xs (wrongLent of k xs was) ≡ 0) where
     passed : first (early ∷ late ∷ []) ≡ late
     unfolding early late
     passed = first-pass early (late ∷ []) z ∙ first-last late
@@ -122,7 +122,7 @@ module _ (of : Net) (B k : ℕ) (xs : List ℕ) (was : Lent) where
 
       -- accepted: the figures, all tables, and the work tables cleared
       pub ends-accepted : {loads : ℕ} {r : Totals} {new-written : Written} {work′ : Work} → loads ≡ length (was .written .division .blockLoads)
-          → Answered of B loads (edges xs) work r new-written work′ → cleared work ≡ cleared (was .work)
+          → ReportWritten of B loads (edges xs) work r new-written work′ → cleared work ≡ cleared (was .work)
           → ended (accepted r) (lent new-written new work′) ≡ reportOutcome of B k xs was
       unfolding reportOutcome reportRefusal early late
       ends-accepted {loads} l a w =

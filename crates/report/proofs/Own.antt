@@ -17,13 +17,13 @@ use Rattle.cost.specs.declared.Totals.{Totals}
 use Rattle.cost.specs.Figures.{totalsOf}
 use Rattle.compare.specs.Likeness.{listRefusal}
 use Rattle.compare.specs.Compare.{unlike}
-use Rattle.report_refusal.specs.Refused.{earlyRefusal}
+use Rattle.report_refusal.specs.Refused.{reportEarly}
 use Rattle.report.specs.Report.{Lent, wrongLent, reportRefusal, reportOutcome}
 use Rattle.compare.proofs.Unlike.{same-passes}
 
 -- 23 is not given before anything is compared
-early-not-23 : (of : Net) (B k : ℕ) (xs : List ℕ) (wrong : Bool) → earlyRefusal of B k xs wrong ≡ 23 → ⊥
-unfolding earlyRefusal
+early-not-23 : (of : Net) (B k : ℕ) (xs : List ℕ) (wrong : Bool) → reportEarly of B k xs wrong ≡ 23 → ⊥
+unfolding reportEarly
 early-not-23 of B k xs wrong =
     other-not 22 _ 1 _ (omega arith) (other-not 22 _ 2 _ (omega arith) (other-not 22 _ 8 _ (omega arith) (other-not 22 _ 30 _ (omega arith)
     (first-not 22 (listRefusal (length (of .parents)) xs) _ (list-not 22 (length (of .parents)) xs (omega arith) (omega arith))
@@ -39,7 +39,7 @@ module _ (of : Net) (B k : ℕ) (xs : List ℕ) (was : Lent) where
   pub own-not-23 : of ≡ netOf (length (of .parents)) (edges xs) → reportOutcome of B k xs was .verdict ≡ refused 23 → ⊥
   unfolding reportOutcome reportRefusal
   own-not-23 is e =
-      first-not 22 (earlyRefusal of B k xs (wrongLent of k xs was)) (unlike of (edges xs) ∷ []) (early-not-23 of B k xs (wrongLent of k xs was))
+      first-not 22 (reportEarly of B k xs (wrongLent of k xs was)) (unlike of (edges xs) ∷ []) (early-not-23 of B k xs (wrongLent of k xs was))
       (first-not 22 (unlike of (edges xs)) [] (λ (d : unlike of (edges xs) ≡ 23). omega (arith, d, same-passes of (edges xs) is)) (end-not 22))
       (judged-number (reportRefusal of B k xs was) (totalsOf of (edges xs) B k) 23 e)
 
@@ -49,8 +49,8 @@ module _ (of : Net) (B k : ℕ) (xs : List ℕ) (was : Lent) where
   accepted-totals totals e = judged-values (reportRefusal of B k xs was) _ totals e
 
 -- a valid net is not refused with 30
-early-not-30 : (of : Net) (B k : ℕ) (xs : List ℕ) (wrong : Bool) → Valid of → earlyRefusal of B k xs wrong ≡ 30 → ⊥
-unfolding earlyRefusal
+early-not-30 : (of : Net) (B k : ℕ) (xs : List ℕ) (wrong : Bool) → Valid of → reportEarly of B k xs wrong ≡ 30 → ⊥
+unfolding reportEarly
 early-not-30 of B k xs wrong v =
     other-not 29 _ 1 _ (omega arith) (other-not 29 _ 2 _ (omega arith) (other-not 29 _ 8 _ (omega arith) (false-not 29 _ 30 _ (valid-undamaged v)
     (first-not 29 (listRefusal (length (of .parents)) xs) _ (list-not 29 (length (of .parents)) xs (omega arith) (omega arith))
@@ -60,4 +60,4 @@ pub report-not-30 : (of : Net) (B k : ℕ) (xs : List ℕ) (was : Lent) → Vali
 unfolding reportOutcome reportRefusal unlike
 report-not-30 of B k xs was v =
     verdict-not _ _ 30
-    (first-not 29 (earlyRefusal of B k xs (wrongLent of k xs was)) _ (early-not-30 of B k xs (wrongLent of k xs was) v) (other-not 29 _ 23 _ (omega arith) (end-not 29)))
+    (first-not 29 (reportEarly of B k xs (wrongLent of k xs was)) _ (early-not-30 of B k xs (wrongLent of k xs was) v) (other-not 29 _ 23 _ (omega arith) (end-not 29)))

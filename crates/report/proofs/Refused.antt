@@ -9,7 +9,7 @@ use Rattle.game.specs.Edge.{edges}
 use Rattle.game.specs.Net.{Net, net}
 use Rattle.game.proofs.Bools.{or-neither}
 use Rattle.refusal.specs.Limits.{maxEdges}
-use Rattle.refusal.specs.Refusal.{badCount, odd, firstFault}
+use Rattle.refusal.specs.Refusal.{badCount, notWhole, firstFault}
 use Rattle.refusal.proofs.First.{first-none, given-none, good-count, length-right}
 use Rattle.growth.specs.Work.{workOf, badWork}
 use Rattle.divide.specs.Divide.{divisionOf, wrongTables, divideRefusal}
@@ -19,7 +19,7 @@ use Rattle.compare.specs.Steps.{Comparable}
 use Rattle.compare.proofs.Refused.{list-passed}
 use Rattle.compare.proofs.Ready.{ComparedLengths, compared-lengths, comparable}
 use Rattle.report_write.specs.Written.{written}
-use Rattle.report_refusal.specs.Refused.{earlyRefusal}
+use Rattle.report_refusal.specs.Refused.{reportEarly}
 use Rattle.report_refusal.specs.Steps.{wrongLengths}
 use Rattle.report.specs.Report.{Lent, lent, wrongFigures, wrongLent}
 
@@ -31,7 +31,7 @@ module _ (p w xs c t b l eb re bc ta cp cw e j lo : List ℕ) where
   -- 2, by the lengths of the tables one by one
   pub wrong-lengths : (k : ℕ) → wrongLengths k p w xs (length c) (length t) (length b) (length l) (length eb) (length re) (length bc) (length ta) (length cp) (length cw) (length e) (length j) (length lo)
       ≡ wrongLent (net p w) k xs was
-  unfolding wrongLengths wrongLent wrongTables wrongFigures wrongCompared badWork odd
+  unfolding wrongLengths wrongLent wrongTables wrongFigures wrongCompared badWork notWhole
   wrong-lengths k = refl
 
 -- the lengths where none is wrong
@@ -45,7 +45,7 @@ pub record Lengths (of : Net) (k : ℕ) (xs : List ℕ) (was : Lent) : Type 0 wh
   pub compared : ComparedLengths (length (of .parents)) (length (edges xs)) (was .compared) (was .work)
 
 pub lengths-right : (of : Net) (k : ℕ) (xs : List ℕ) (was : Lent) → wrongLent of k xs was ≡ false → Lengths of k xs was
-unfolding wrongLent wrongFigures odd
+unfolding wrongLent wrongFigures notWhole
 lengths-right of k xs was e =
     let a = or-neither _ _ e in
     let b = or-neither _ _ (a .0) in
@@ -72,8 +72,8 @@ pub record Ready (of : Net) (B k : ℕ) (xs : List ℕ) (was : Lent) : Type 0 wh
   pub faultless : firstFault (length (of .parents)) (edges xs) ≡ 0
   pub few : length (edges xs) ≤ maxEdges
 
-pub ready : (of : Net) (B k : ℕ) (xs : List ℕ) (was : Lent) → earlyRefusal of B k xs (wrongLent of k xs was) ≡ 0 → Ready of B k xs was
-unfolding earlyRefusal
+pub ready : (of : Net) (B k : ℕ) (xs : List ℕ) (was : Lent) → reportEarly of B k xs (wrongLent of k xs was) ≡ 0 → Ready of B k xs was
+unfolding reportEarly
 ready of B k xs was z =
     let a = first-none _ _ z in
     let b = first-none _ _ (a .1) in

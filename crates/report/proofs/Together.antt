@@ -18,13 +18,13 @@ use Rattle.cost.specs.Laid.{Together}
 use Rattle.cost.proofs.Laid.{blocks-laid-together, block-charges}
 use Rattle.compare.specs.Compare.{unlike}
 use Rattle.report_write.specs.Written.{Written, figures}
-use Rattle.report_refusal.specs.Refused.{earlyRefusal}
+use Rattle.report_refusal.specs.Refused.{reportEarly}
 use Rattle.report.specs.Report.{Lent, wrongLent, reportRefusal, reportOutcome}
 use Rattle.compare.proofs.Unlike.{passed-same}
 use Rattle.report.proofs.Refused.{ready}
 
 module _ (of : Net) (B k : ℕ) (xs : List ℕ) (was : Lent) {totals : Totals} (answer : reportOutcome of B k xs was .verdict ≡ accepted totals) where
-  pub passed : (earlyRefusal of B k xs (wrongLent of k xs was) ≡ 0) × (unlike of (edges xs) ≡ 0)
+  pub passed : (reportEarly of B k xs (wrongLent of k xs was) ≡ 0) × (unlike of (edges xs) ≡ 0)
   unfolding reportOutcome reportRefusal
   passed =
       let early = first-none _ _ (accepted-none (reportRefusal of B k xs was) _ answer) in
@@ -37,15 +37,19 @@ module _ (of : Net) (B k : ℕ) (xs : List ℕ) (was : Lent) {totals : Totals} (
       omega (arith, d .tables .some, d .blocks)
 
   -- the edges are the net's own
-  own : of ≡ netOf (length (of .parents)) (edges xs)
+  pub own : of ≡ netOf (length (of .parents)) (edges xs)
   own = passed-same of (edges xs) (passed .1)
 
-  -- what is written of the division is the division
-  pub written : reportOutcome of B k xs was .tables .written .division ≡ divided of B k
-  unfolding reportOutcome figures
-  written =
-      ap (λ (t : Lent). t .written .division) (unless-accepted _ was _ (passed .0))
-      ∙ ap (λ (w : Written). w .division) (unless-accepted _ (was .written) (figures of B k (edges xs)) (passed .1))
+  -- what is written are the figures
+  pub written-figures : reportOutcome of B k xs was .tables .written ≡ figures of B k (edges xs)
+  unfolding reportOutcome
+  written-figures =
+      ap (λ (t : Lent). t .written) (unless-accepted _ was _ (passed .0)) ∙ unless-accepted _ (was .written) (figures of B k (edges xs)) (passed .1)
+
+  -- of the division, those of the division
+  pub written-division : reportOutcome of B k xs was .tables .written .division ≡ divided of B k
+  unfolding figures
+  written-division = ap (λ (w : Written). w .division) written-figures
 
   -- "laid together again, are the net", and the load of each block is what its edges are charged
   pub report-together : Together of (edges xs) k (reportOutcome of B k xs was .tables .written .division)
@@ -54,7 +58,7 @@ module _ (of : Net) (B k : ℕ) (xs : List ℕ) (was : Lent) {totals : Totals} (
       let d = divide-known (of .parents) (of .weights) B k (was .written .division) (r .divides) in
       let proper = faultless-proper (length (of .parents)) (edges xs) (r .faultless) in
       let any : 0 < length (of .parents) = r .some in
-      subst (Together of (edges xs) k) (sym written)
+      subst (Together of (edges xs) k) (sym written-division)
       (record {
         net = λ js order tables p w lots fit. blocks-laid-together of (d .net .few) proper own B k some-block any (d .net .small) order tables p w lots fit;
         loads = block-charges of (d .net .few) proper own B k some-block (d .net);

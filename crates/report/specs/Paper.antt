@@ -10,7 +10,7 @@ use Rattle.game.specs.Table.{tabulate, sum, count, member, filtered}
 use Rattle.game.specs.Edge.{lower, edges, touches}
 use Rattle.game.specs.Tree.{sound}
 use Rattle.game.specs.Net.{Net, net, netOf, reach}
-use Rattle.refusal.specs.Refusal.{given, first, unless, badCount, wrongLength, odd, fault, firstFault}
+use Rattle.refusal.specs.Refusal.{given, first, unless, badCount, wrongLength, notWhole, fault, firstFault}
 use Rattle.net.specs.Damage.{damagedBy, damaged}
 use Rattle.growth.specs.Work.{workOf, badWork, zeros, cleared}
 use Rattle.refusal.specs.DivisionLimits.{badLimits, tooHeavy}
@@ -26,7 +26,7 @@ use Rattle.refusal.specs.Verdict.{accepted, refused, judged}
 use Rattle.refusal.specs.Outcome.{Outcome, ended}
 use Rattle.cost.specs.declared.Totals.{Totals}
 use Rattle.report_write.specs.Written.{Written, written, figures}
-use Rattle.report_refusal.specs.Refused.{earlyRefusal}
+use Rattle.report_refusal.specs.Refused.{reportEarly}
 use Rattle.report.specs.Report.{Lent, lent, wrongFigures, wrongLent, reportRefusal, reportOutcome}
 
 -- tables of the right lengths, lent with sevens in them
@@ -83,5 +83,5 @@ printed =
     ∷ []
 
 pub paper : computed ≡ printed
-unfolding computed printed whole own other others sevens given-tables given-all cleared-with reaches reportOutcome reportRefusal earlyRefusal unlike wrongCompared listRefusal wrongLent wrongFigures figures first given unless badCount wrongLength odd fault firstFault damaged damagedBy sound badWork cleared zeros badLimits tooHeavy wrongTables divided judged sameNet sameTable netOf reach edgeBlocks edgeBlock lower blockCount different blocksAt edgesTaken takenAfter allMet filtered touches bound boundOf isCut volume volumeOf shareOf evenShare totalsOf tabulate sum count member edges
+unfolding computed printed whole own other others sevens given-tables given-all cleared-with reaches reportOutcome reportRefusal reportEarly unlike wrongCompared listRefusal wrongLent wrongFigures figures first given unless badCount wrongLength notWhole fault firstFault damaged damagedBy sound badWork cleared zeros badLimits tooHeavy wrongTables divided judged sameNet sameTable netOf reach edgeBlocks edgeBlock lower blockCount different blocksAt edgesTaken takenAfter allMet filtered touches bound boundOf isCut volume volumeOf shareOf evenShare totalsOf tabulate sum count member edges
 paper = refl

@@ -15,7 +15,7 @@ use Prim.Native.Nat.{ℕ}
 use lib.ListN.{length}
 use Rattle.game.specs.Edge.{Edge, edges}
 use Rattle.game.specs.Net.{Net, netOf}
-use Rattle.refusal.specs.Refusal.{first, unless, wrongLength, odd}
+use Rattle.refusal.specs.Refusal.{first, unless, wrongLength, notWhole}
 use Rattle.refusal.specs.Verdict.{judged}
 use Rattle.refusal.specs.Outcome.{Outcome, ended}
 use Rattle.growth.specs.Work.{Work, cleared}
@@ -24,7 +24,7 @@ use Rattle.cost.specs.declared.Totals.{Totals}
 use Rattle.cost.specs.Figures.{totalsOf}
 use Rattle.report_write.specs.Written.{Written, figures}
 use Rattle.compare.specs.Compare.{wrongCompared, unlike}
-use Rattle.report_refusal.specs.Refused.{earlyRefusal}
+use Rattle.report_refusal.specs.Refused.{reportEarly}
 
 -- every table that Report is lent to write: those of a net, the comparison tables, and the work tables
 pub record Lent : Type 0 where
@@ -45,16 +45,16 @@ unfoldable pub wrongLent : Net → ℕ → List ℕ → Lent → Bool
 wrongLent of k xs was =
     let n : ℕ = length (of .parents) in
     let m : ℕ = length (edges xs) in
-    wrongTables of k (was .written .division) || wrongFigures n m (was .written) || wrongCompared n m (was .compared) (was .work) || odd xs
+    wrongTables of k (was .written .division) || wrongFigures n m (was .written) || wrongCompared n m (was .compared) (was .work) || notWhole xs
 
 -- the number for which Report is refused, or 0; 23 comes last
 unfoldable pub reportRefusal : Net → ℕ → ℕ → List ℕ → Lent → ℕ
-reportRefusal of B k xs was = first (earlyRefusal of B k xs (wrongLent of k xs was) ∷ unlike of (edges xs) ∷ [])
+reportRefusal of B k xs was = first (reportEarly of B k xs (wrongLent of k xs was) ∷ unlike of (edges xs) ∷ [])
 
 unfoldable pub reportOutcome : Net → ℕ → ℕ → List ℕ → Lent → Outcome Totals Lent
 reportOutcome of B k xs was =
     let es : List Edge = edges xs in
     ended
     (judged (reportRefusal of B k xs was) (totalsOf of es B k))
-    (unless (earlyRefusal of B k xs (wrongLent of k xs was)) was
+    (unless (reportEarly of B k xs (wrongLent of k xs was)) was
     (lent (unless (unlike of es) (was .written) (figures of B k es)) (netOf (length (of .parents)) es) (cleared (was .work))))

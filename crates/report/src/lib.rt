@@ -5,7 +5,7 @@
 // It decides by reading alone, up to 22. Then it grows the net of the edges into the comparison tables and compares; only then does it
 // write anything else. The list is filed once, for growing; what is written is read from the same buckets.
 use cost::ReportAnswer;
-use report_refusal::early_refusal;
+use report_refusal::report_early;
 use report_refusal::wrong_lengths;
 use report_write::write_report;
 ghost use mathlib.Core.Path.{_≡_};
@@ -70,7 +70,7 @@ pub fn report(
         jump.len(),
         lower.len(),
     );
-    let code = early_refusal(parents, weights, limit, blocks, edges, wrong);
+    let code = report_early(parents, weights, limit, blocks, edges, wrong);
     if code != 0 {
         return ReportAnswer::Refused(code);
     }

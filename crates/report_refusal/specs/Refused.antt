@@ -14,8 +14,8 @@ use Rattle.refusal.specs.DivisionLimits.{badLimits, tooHeavy}
 use Rattle.compare.specs.Likeness.{listRefusal}
 
 -- the number for which Report is refused early, or 0; `wrong` tells whether a length is wrong
-unfoldable pub earlyRefusal : Net → ℕ → ℕ → List ℕ → (wrong : Bool) → ℕ
-earlyRefusal of B k xs wrong =
+unfoldable pub reportEarly : Net → ℕ → ℕ → List ℕ → (wrong : Bool) → ℕ
+reportEarly of B k xs wrong =
     let n : ℕ = length (of .parents) in
     first
     (given (badCount n) 1

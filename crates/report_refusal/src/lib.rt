@@ -5,7 +5,7 @@ ghost use mathlib.Core.Bool.{false, _||_};
 ghost use lib.ListN.{length};
 ghost use Rattle.game.specs.Net.{net};
 ghost use Rattle.refusal.specs.Refusal.{wrongLength};
-ghost use Rattle.report_refusal.specs.Refused.{earlyRefusal};
+ghost use Rattle.report_refusal.specs.Refused.{reportEarly};
 ghost use Rattle.report_refusal.specs.Steps.{wrongLengths};
 
 // Whether one of the tables that a division does not know has another length than it needs: n entries for the vertices, m for the edges.
@@ -69,7 +69,7 @@ pub fn wrong_lengths(
 }
 
 // The number for which Report is refused before anything is compared, or 0. Whether a length is wrong was found out before.
-pub fn early_refusal(
+pub fn report_early(
     parents: &[u32],
     weights: &[u32],
     limit: u32,
@@ -78,7 +78,7 @@ pub fn early_refusal(
     wrong: bool,
 ) -> u32
     requires { ⌜ (wrong ≡ false → length (now weights) ≡ length (now parents)) ⌝ }
-    ensures { λ r. ⌜ r ≡ earlyRefusal (net (now (parents .entry)) (now (weights .entry))) limit blocks (now (edges .entry)) wrong ⌝ }
+    ensures { λ r. ⌜ r ≡ reportEarly (net (now (parents .entry)) (now (weights .entry))) limit blocks (now (edges .entry)) wrong ⌝ }
 {
     let n = parents.len();
     if refusal::bad_count(n) {

@@ -26,7 +26,7 @@ use Rattle.cost.specs.declared.Totals.{Totals}
 use Rattle.block_count.specs.Taken.{edgesTaken}
 use Rattle.block_count.specs.CountingSteps.{Countable, Writes}
 use Rattle.report_write.specs.Written.{written, figures}
-use Rattle.report_write.specs.Steps.{Reportable, Spread, Answered}
+use Rattle.report_write.specs.Steps.{Reportable, Spread, ReportWritten}
 use Rattle.cost.proofs.Divided.{cuts, packed, divided-top, divided-block, block-below}
 use Rattle.cost.proofs.Summed.{bound-by, volume-by}
 
@@ -99,7 +99,7 @@ module _ {p w c t b l eb re bc en lo : List ℕ} {es : List Edge} {B : ℕ} (q :
   -- all that was written, and the answer
   pub all-answered : {m : ℕ} {eb″ bc″ ta″ jump : List ℕ} (jump′ : List ℕ) {r : Totals} {work : Work} → m ≡ length l → eb″ ≡ edgeBlocks b′ es → Writes es b′ m bc″ ta″
       → length jump′ ≡ length jump → work ≡ cleared (workOf en jump′ lo) → length l′ ≡ length l → r ≡ summed p t′ re′ bc″ l′
-      → Answered (net p w) B (length l) es (workOf en jump lo) r (written (divisionOf c′ t′ b′ l′) eb″ re′ bc″ ta″) work
+      → ReportWritten (net p w) B (length l) es (workOf en jump lo) r (written (divisionOf c′ t′ b′ l′) eb″ re′ bc″ ta″) work
   unfolding figures totalsOf boundOf volumeOf shareOf summed of k cleared zeros
   all-answered {m} {eb″} {bc″} {ta″} jump′ e f g j z h a = record {
     answers = a ∙ (λ i. totals

@@ -33,7 +33,7 @@ pub record Spread (p w : List ℕ) (B k : ℕ) (es : List Edge) (division : Divi
   pub reached : reaches ≡ tabulate (length p) (reach p es)
 
 -- what writing leaves and answers
-pub record Answered (of : Net) (B k : ℕ) (es : List Edge) (work : Work) (r : Totals) (written : Written) (work′ : Work) : Type 0 where
+pub record ReportWritten (of : Net) (B k : ℕ) (es : List Edge) (work : Work) (r : Totals) (written : Written) (work′ : Work) : Type 0 where
   pub answers : r ≡ totalsOf of es B k
   pub writes : written ≡ figures of B k es
   pub clear : work′ ≡ cleared work

@@ -12,7 +12,7 @@ ghost use Rattle.game.specs.Net.{net};
 ghost use Rattle.divide.specs.Divide.{divisionOf};
 ghost use Rattle.growth.specs.Work.{workOf};
 ghost use Rattle.report_write.specs.Written.{written};
-ghost use Rattle.report_write.specs.Steps.{Reportable, Spread, Answered};
+ghost use Rattle.report_write.specs.Steps.{Reportable, Spread, ReportWritten};
 
 // Divides the net, and writes the reaches of its vertices, from its edges as they are filed. The reaches come first: until the other
 // tables are written, they are room for the counting.
@@ -74,7 +74,7 @@ pub fn write_report(
     requires { ⌜ Reportable (now parents) (now weights) limit (edgesOf (now edges)) (now ends) (now lower)
         (divisionOf (now carried) (now top) (now block) (now «block_loads»)) (now «edge_blocks») (now reach) (now «block_count»)
         × (length (now «edges_taken») ≡ length (now parents)) × (length (now jump) ≡ length (now parents)) ⌝ }
-    ensures { λ r. ⌜ Answered (net (now (parents .entry)) (now (weights .entry))) limit (length (now («block_loads» .entry))) (edgesOf (now (edges .entry)))
+    ensures { λ r. ⌜ ReportWritten (net (now (parents .entry)) (now (weights .entry))) limit (length (now («block_loads» .entry))) (edgesOf (now (edges .entry)))
         (workOf (now (ends .entry)) (now (jump .entry)) (now (lower .entry))) r
         (written (divisionOf (now (carried .exit)) (now (top .exit)) (now (block .exit)) (now («block_loads» .exit))) (now («edge_blocks» .exit)) (now (reach .exit)) (now («block_count» .exit)) (now («edges_taken» .exit)))
         (workOf (now (ends .exit)) (now (jump .exit)) (now (lower .exit))) ⌝ }

@@ -17,12 +17,12 @@ use Rattle.words.proofs.Bytes.{words-length}
 use Rattle.order.specs.Order.{badOrder}
 use Rattle.relabel.specs.Relabel.{relabelled}
 use Rattle.refusal.specs.DivisionLimits.{badLimits, tooHeavy}
-use Rattle.decimal.specs.Put.{Put}
+use Rattle.decimal.specs.Put.{PutText}
 use Rattle.decimal.proofs.Runs.{put-front}
 use Rattle.lines.specs.Lines.{refusedText}
 use Rattle.files.specs.Files.{Files, vertexCount, order, edgeList, limit, blocks, vertexCapacity}
 use Rattle.files.specs.Refused.{fileRefusal}
-use Rattle.files.specs.Steps.{Loaded, endCapacity}
+use Rattle.files.specs.Steps.{FilesLoaded, endCapacity}
 use Rattle.files.proofs.Loading.{Sizes, sizes, sizes-pass}
 use Rattle.run.specs.Run.{rankedEdges, runNet, runRefusal}
 use Rattle.run_report.specs.Text.{reportText, decidedText}
@@ -89,12 +89,12 @@ module _ (f : Files) where
 abbrev Finished : Files → (was now : List ℕ) → ℕ → Type 0
 Finished f was now end = (take end now ≡ runText f) × ((drop end now ≡ drop end was) × ((end ≤ length now) × (end ≡ length (take end now))))
 
-finished : (f : Files) {printed was now : List ℕ} {end : ℕ} → printed ≡ runText f → Put was 0 printed now end
+finished : (f : Files) {printed was now : List ℕ} {end : ℕ} → printed ≡ runText f → PutText was 0 printed now end
     → Finished f was now end
 finished f e p = let q = put-front p in (q .0 ∙ e, (q .1, (q .3, q .2 ∙ ap length (sym (q .0)))))
 
-module _ {f : Files} {o xs : List ℕ} {code : ℕ} (l : Loaded f o xs code) where
-  pub ends-refused : {was now : List ℕ} {end : ℕ} → (code ≡ 0 → ⊥) → Put was 0 (refusedText code) now end → Finished f was now end
+module _ {f : Files} {o xs : List ℕ} {code : ℕ} (l : FilesLoaded f o xs code) where
+  pub ends-refused : {was now : List ℕ} {end : ℕ} → (code ≡ 0 → ⊥) → PutText was 0 (refusedText code) now end → Finished f was now end
   ends-refused d p = finished f (refused-text f (l .refusal) d) p
 
   module _ (z : code ≡ 0) where
@@ -124,7 +124,7 @@ module _ {f : Files} {o xs : List ℕ} {code : ℕ} (l : Loaded f o xs code) whe
     edges-counted e = sym (length-take-le _ xs (edges-fit e))
 
     pub ends-accepted : {was now : List ℕ} {B k end : ℕ} → B ≡ limit f → k ≡ blocks f
-        → Put was 0 (netText (take (length (f .marks) / 4) o) (edges (relabelled (take (length (f .marks) / 4) o) (take (length (f .ties) / 4) xs))) B k) now end
+        → PutText was 0 (netText (take (length (f .marks) / 4) o) (edges (relabelled (take (length (f .marks) / 4) o) (take (length (f .ties) / 4) xs))) B k) now end
         → Finished f was now end
     unfolding rankedEdges
     ends-accepted eB ek p =

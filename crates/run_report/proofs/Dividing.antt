@@ -10,15 +10,15 @@ use Rattle.game.specs.Edge.{edges}
 use Rattle.game.specs.Net.{Net, net, netOf}
 use Rattle.relabel.specs.Relabel.{relabelled}
 use Rattle.refusal.specs.DivisionLimits.{badLimits}
-use Rattle.decimal.specs.Put.{Put}
-use Rattle.run_report.specs.Steps.{Runnable, Grown, Ready, netText}
+use Rattle.decimal.specs.Put.{PutText}
+use Rattle.run_report.specs.Steps.{Runnable, RankedNet, Ready, netText}
 use Rattle.run_report.proofs.Growing.{ranked-count, ranked-even, ranked-faultless}
 
 -- what was grown, read again from the tables that it stands in
-pub grown-again : {o xs ranks p w ranks′ p′ w′ : List ℕ} → Grown o xs ranks (net p w) → ranks′ ≡ ranks → p′ ≡ p → w′ ≡ w → Grown o xs ranks′ (net p′ w′)
+pub grown-again : {o xs ranks p w ranks′ p′ w′ : List ℕ} → RankedNet o xs ranks (net p w) → ranks′ ≡ ranks → p′ ≡ p → w′ ≡ w → RankedNet o xs ranks′ (net p′ w′)
 grown-again g er ep ew = record { ranked = er ∙ g .ranked; net = ap₂ net ep ew ∙ g .net }
 
-module _ {o xs ranks : List ℕ} {grown : Net} (r : Runnable o xs) (g : Grown o xs ranks grown) where
+module _ {o xs ranks : List ℕ} {grown : Net} (r : Runnable o xs) (g : RankedNet o xs ranks grown) where
   pub to-report : {B k : ℕ} → badLimits B k ≡ false → Ready o ranks B k grown
   to-report good =
       record {
@@ -31,6 +31,6 @@ module _ {o xs ranks : List ℕ} {grown : Net} (r : Runnable o xs) (g : Grown o 
         own = g .net ∙ ap (λ (ys : List ℕ). netOf (length o) (edges ys)) (sym (g .ranked));
       }
 
-  pub put-ranked : (B k : ℕ) {text text′ : List ℕ} {end : ℕ} → Put text 0 (netText o (edges ranks) B k) text′ end
-      → Put text 0 (netText o (edges (relabelled o xs)) B k) text′ end
-  put-ranked B k {text} {text′} {end} p = subst (λ (ys : List ℕ). Put text 0 (netText o (edges ys) B k) text′ end) (g .ranked) p
+  pub put-ranked : (B k : ℕ) {text text′ : List ℕ} {end : ℕ} → PutText text 0 (netText o (edges ranks) B k) text′ end
+      → PutText text 0 (netText o (edges (relabelled o xs)) B k) text′ end
+  put-ranked B k {text} {text′} {end} p = subst (λ (ys : List ℕ). PutText text 0 (netText o (edges ys) B k) text′ end) (g .ranked) p

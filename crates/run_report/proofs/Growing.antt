@@ -24,7 +24,7 @@ use Rattle.relabel.specs.Relabel.{relabelled, RelabelTables, relabelTables, rel
 use Rattle.relabel.proofs.Relabelled.{relabelled-length, relabelled-faultless}
 use Rattle.forest.proofs.FirstList.{FirstList, first-net}
 use Rattle.files.specs.Files.{vertexCapacity}
-use Rattle.run_report.specs.Steps.{Runnable, GrowRoom, Grown}
+use Rattle.run_report.specs.Steps.{Runnable, GrowRoom, RankedNet}
 
 pub few-vertices : (n : ℕ) → 0 < n → n ≤ vertexCapacity → badCount n ≡ false
 unfolding badCount
@@ -93,7 +93,7 @@ module _ {o xs ranks p w v e j l : List ℕ} (r : Runnable o xs) (room : GrowRoo
     -- all calls together
     pub all-grown : {m′ : Verdict (Unit {0})} {m″ : Verdict Moved} {p′ w′ p″ w″ e″ j″ l″ : List ℕ} → ended m′ (net p′ w′) ≡ startOutcome (net p w)
         → ended m″ (withWork (net p″ w″) (workOf e″ j″ l″)) ≡ addOutcome (withWork (net p′ w′) (workOf e j l)) ranks′
-        → Grown o xs ranks′ (net p″ w″)
+        → RankedNet o xs ranks′ (net p″ w″)
     all-grown s a =
         record {
           ranked = by-rank;

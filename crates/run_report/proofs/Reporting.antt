@@ -23,13 +23,13 @@ use Rattle.net.specs.Damage.{damagedBy, damaged}
 use Rattle.growth.specs.Work.{badWork}
 use Rattle.refusal.specs.DivisionLimits.{tooHeavy}
 use Rattle.divide.specs.Divide.{wrongTables}
-use Rattle.decimal.specs.Put.{Put}
+use Rattle.decimal.specs.Put.{PutText}
 use Rattle.cost.specs.declared.Totals.{Totals}
 use Rattle.cost.specs.Figures.{totalsOf}
 use Rattle.compare.specs.Compare.{wrongCompared, unlike}
 use Rattle.compare.proofs.Refused.{list-passes}
 use Rattle.report_write.specs.Written.{Written, figures}
-use Rattle.report_refusal.specs.Refused.{earlyRefusal}
+use Rattle.report_refusal.specs.Refused.{reportEarly}
 use Rattle.report.specs.Report.{Lent, wrongFigures, wrongLent, reportRefusal, reportOutcome}
 use Rattle.compare.proofs.Unlike.{same-passes}
 use Rattle.lines.specs.Lines.{rankText, linesBelow, totalsText}
@@ -126,8 +126,8 @@ module _ {o ranks : List ℕ} {B k : ℕ} {of : Net} (g : Ready o ranks B k of) 
         )
 
     -- before the comparison only 22 is given, and the comparison finds the net
-    only-heavy : earlyRefusal of B k ranks (wrongLent of k ranks was) ≡ given (tooHeavy B (of .weights)) 22
-    unfolding earlyRefusal
+    only-heavy : reportEarly of B k ranks (wrongLent of k ranks was) ≡ given (tooHeavy B (of .weights)) 22
+    unfolding reportEarly
     only-heavy =
         pass 1 _ (ap badCount vertices ∙ few-vertices (length o) (g .some) (g .vertices))
         ∙ pass 2 _ lengths-right
@@ -161,7 +161,7 @@ module _ {o ranks : List ℕ} {B k : ℕ} {of : Net} (g : Ready o ranks B k of) 
       unfolding reportOutcome code
       writes z =
           ap (λ (e : Outcome Totals Lent). e .tables .written) ends
-          ∙ ap (λ (t : Lent). t .written) (unless-accepted (earlyRefusal of B k ranks (wrongLent of k ranks was)) was _ (only-heavy ∙ z))
+          ∙ ap (λ (t : Lent). t .written) (unless-accepted (reportEarly of B k ranks (wrongLent of k ranks was)) was _ (only-heavy ∙ z))
           ∙ unless-accepted (unlike of (edges ranks)) (was .written) (figures of B k (edges ranks)) same
 
       accepted-text : code ≡ 0 → lines of (new .written) ++ totalsText (totalsOf of (edges ranks) B k) ≡ reportText o (edges ranks) B k
@@ -177,10 +177,10 @@ module _ {o ranks : List ℕ} {B k : ℕ} {of : Net} (g : Ready o ranks B k of) 
           ∙ ap (λ (net : Net). decidedText (given (tooHeavy B (net .weights)) 22) (reportText o (edges ranks) B k)) (g .own)
 
       pub put-prints : {r t b c text text′ : List ℕ} {end : ℕ} → r ≡ new .written .reach → t ≡ new .written .division .top → b ≡ new .written .division .block
-          → c ≡ new .written .blockCount → Put text 0 (answerText q (linesBelow (rankText o (of .parents) (of .weights) r t b c) (length o))) text′ end
-          → Put text 0 (netText o (edges ranks) B k) text′ end
+          → c ≡ new .written .blockCount → PutText text 0 (answerText q (linesBelow (rankText o (of .parents) (of .weights) r t b c) (length o))) text′ end
+          → PutText text 0 (netText o (edges ranks) B k) text′ end
       unfolding lines
       put-prints {text = text} {text′} {end} er et eb ec p =
-          subst (λ (printed : List ℕ). Put text 0 printed text′ end)
+          subst (λ (printed : List ℕ). PutText text 0 printed text′ end)
           ((λ i. answerText q (linesBelow (rankText o (of .parents) (of .weights) (er i) (et i) (eb i) (ec i)) (length o))) ∙ prints)
           p

@@ -36,7 +36,7 @@ pub record GrowRoom (o xs ranks : List ℕ) (lent : Net) : Type 0 where
   pub weights : length (lent .weights) ≡ length o
 
 -- what growing leaves: the edges by rank, and their net
-pub record Grown (o xs ranks : List ℕ) (grown : Net) : Type 0 where
+pub record RankedNet (o xs ranks : List ℕ) (grown : Net) : Type 0 where
   pub ranked : ranks ≡ relabelled o xs
   pub net : grown ≡ netOf (length o) (edges (relabelled o xs))
 

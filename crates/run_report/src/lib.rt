@@ -11,10 +11,10 @@ ghost use Prim.Native.Nat.{_≤_};
 ghost use lib.ListN.{length};
 ghost use Rattle.game.specs.Edge.{edges as edgesOf};
 ghost use Rattle.game.specs.Net.{net};
-ghost use Rattle.decimal.specs.Put.{Put};
+ghost use Rattle.decimal.specs.Put.{PutText};
 ghost use Rattle.refusal.specs.DivisionLimits.{badLimits};
 ghost use Rattle.relabel.specs.Relabel.{relabelled};
-ghost use Rattle.run_report.specs.Steps.{Runnable, GrowRoom, Grown, Ready, netText, textRoom};
+ghost use Rattle.run_report.specs.Steps.{Runnable, GrowRoom, RankedNet, Ready, netText, textRoom};
 
 // The most blocks of a division.
 const BLOCKS: usize = refusal::MAX_BLOCKS as usize;
@@ -23,10 +23,16 @@ const BLOCKS: usize = refusal::MAX_BLOCKS as usize;
 const BOTH: usize = VERTICES + EDGES;
 
 // Relabels the edges by the order, and grows their net.
-fn grow(order: &[u32], edges: &[u32], ranked: &mut [u32], parents: &mut [u32], weights: &mut [u32])
+fn grow_ranked(
+    order: &[u32],
+    edges: &[u32],
+    ranked: &mut [u32],
+    parents: &mut [u32],
+    weights: &mut [u32],
+)
     requires { ⌜ Runnable (now order) (now edges) ⌝ }
     requires { ⌜ GrowRoom (now order) (now edges) (now ranked) (net (now parents) (now weights)) ⌝ }
-    ensures { λ _. ⌜ Grown (now (order .entry)) (now (edges .entry)) (now (ranked .exit)) (net (now (parents .exit)) (now (weights .exit))) ⌝ }
+    ensures { λ _. ⌜ RankedNet (now (order .entry)) (now (edges .entry)) (now (ranked .exit)) (net (now (parents .exit)) (now (weights .exit))) ⌝ }
 {
     let n = order.len();
     let both = n + edges.len() / refusal::STRIDE;
@@ -58,7 +64,7 @@ fn report_on(
 ) -> usize
     requires { ⌜ Ready (now order) (now ranked) limit blocks (net (now parents) (now weights)) ⌝ }
     requires { ⌜ textRoom ≤ length (now text) ⌝ }
-    ensures { λ r. ⌜ Put (now (text .entry)) 0 (netText (now (order .entry)) (edgesOf (now (ranked .entry))) limit blocks) (now (text .exit)) r ⌝ }
+    ensures { λ r. ⌜ PutText (now (text .entry)) 0 (netText (now (order .entry)) (edgesOf (now (ranked .entry))) limit blocks) (now (text .exit)) r ⌝ }
 {
     let n = order.len();
     let m = ranked.len() / refusal::STRIDE;
@@ -115,7 +121,7 @@ pub fn divide(order: &[u32], edges: &[u32], limit: u32, blocks: u32, text: &mut 
     requires { ⌜ Runnable (now order) (now edges) × (badLimits limit blocks ≡ false) ⌝ }
     requires { ⌜ textRoom ≤ length (now text) ⌝ }
     ensures { λ r. ⌜
-        Put (now (text .entry)) 0 (netText (now (order .entry)) (edgesOf (relabelled (now (order .entry)) (now (edges .entry)))) limit blocks)
+        PutText (now (text .entry)) 0 (netText (now (order .entry)) (edgesOf (relabelled (now (order .entry)) (now (edges .entry)))) limit blocks)
         (now (text .exit)) r ⌝ }
 {
     let n = order.len();
@@ -123,7 +129,7 @@ pub fn divide(order: &[u32], edges: &[u32], limit: u32, blocks: u32, text: &mut 
     let mut ranked = [0u32; EDGE_ENDS];
     let mut parents = [0u32; VERTICES];
     let mut weights = [0u32; VERTICES];
-    grow(
+    grow_ranked(
         order,
         edges,
         &mut ranked[..edge_ends],

@@ -20,8 +20,8 @@ fn put_record(bytes: &mut [u8], at: usize, parent: u32, weight: u32)
     requires { ⌜ at + 8 ≤ length (now bytes) ⌝ }
     ensures { λ _. ⌜ now (bytes .exit) ≡ sets (now (bytes .entry)) at (wordBytes parent ++ wordBytes weight) ⌝ }
 {
-    words::put(bytes, at, parent_bytes(parent));
-    words::put(bytes, at + 4, words::word_bytes(weight));
+    words::put_word(bytes, at, parent_bytes(parent));
+    words::put_word(bytes, at + 4, words::word_bytes(weight));
 }
 
 // Writes the records of a net.

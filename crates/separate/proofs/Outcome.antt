@@ -21,24 +21,24 @@ use Rattle.ancestry.specs.Answer.{separatorOf}
 use Rattle.ancestry.specs.Common.{commonAncestors, related, atFront}
 use Rattle.ancestry.specs.Steps.{listOutcome}
 use Rattle.compare.specs.OwnSteps.{Told}
-use Rattle.separate.specs.Refused.{readRefusal}
+use Rattle.separate.specs.Refused.{separateEarly}
 use Rattle.separate.specs.Separate.{SeparateTables, separateTables, wrongSeparate, grownRefusal, separateRefusal, separateOutcome}
 
 module _ (of : Net) (a b : ℕ) (xs : List ℕ) (was : SeparateTables) where
   early : ℕ
-  early = readRefusal of a b xs (wrongSeparate of xs was)
+  early = separateEarly of a b xs (wrongSeparate of xs was)
 
   late : ℕ
   late = grownRefusal of a b (edges xs)
 
   -- refused by reading alone: the number, and every table as it was
-  pub ends-early : {code : ℕ} {wrong : Bool} → code ≡ readRefusal of a b xs wrong → wrong ≡ wrongSeparate of xs was → (code ≡ 0 → ⊥)
+  pub ends-early : {code : ℕ} {wrong : Bool} → code ≡ separateEarly of a b xs wrong → wrong ≡ wrongSeparate of xs was → (code ≡ 0 → ⊥)
       → ended (refused code) was ≡ separateOutcome of a b xs was
   unfolding separateOutcome separateRefusal early late
   ends-early {code} e w h = ap₂ ended (sym number) (sym (unless-refused early was _ some))
     where
       is : code ≡ early
-      is = e ∙ ap (readRefusal of a b xs) w
+      is = e ∙ ap (separateEarly of a b xs) w
 
       some : early ≡ 0 → ⊥
       some z = h (is ∙ z)
@@ -48,7 +48,7 @@ module _ (of : Net) (a b : ℕ) (xs : List ℕ) (was : SeparateTables) where
           ap (λ (m : ℕ). judged m (separatorOf (commonAncestors (of .parents) a b))) (first-stop early (late ∷ []) some)
           ∙ judged-refused early _ some ∙ ap refused (sym is)
 
-  module _ (z : readRefusal of a b xs (wrongSeparate of xs was) ≡ 0) where
+  module _ (z : separateEarly of a b xs (wrongSeparate of xs was) ≡ 0) where
     passed : first (early ∷ late ∷ []) ≡ late
     unfolding early late
     passed = first-pass early (late ∷ []) z ∙ first-last late

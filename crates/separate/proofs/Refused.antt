@@ -12,7 +12,7 @@ use Rattle.game.specs.Net.{Net, net, total}
 use Rattle.game.proofs.Edges.{edges-length}
 use Rattle.game.proofs.Bools.{or-neither}
 use Rattle.game.proofs.Sound.{true-sound}
-use Rattle.refusal.specs.Refusal.{wrongLength, odd, firstFault}
+use Rattle.refusal.specs.Refusal.{wrongLength, notWhole, firstFault}
 use Rattle.refusal.proofs.First.{first-none, given-none, good-count, length-right, list-even}
 use Rattle.net.specs.Damage.{damaged}
 use Rattle.net.proofs.Scan.{undamaged}
@@ -22,14 +22,14 @@ use Rattle.compare.proofs.Refused.{list-passed}
 use Rattle.compare.proofs.Ready.{ComparedLengths, compared-lengths, comparable}
 use Rattle.ancestry.specs.Steps.{Walkable}
 use Rattle.compare.specs.OwnSteps.{Tellable}
-use Rattle.separate.specs.Refused.{readRefusal}
+use Rattle.separate.specs.Refused.{separateEarly}
 use Rattle.separate.specs.Separate.{SeparateTables, separateTables, wrongSeparate}
 
 -- 2, by the lengths that the code compares
 pub wrong-lengths : (p w xs l cp cw e j lo : List ℕ) {o : Bool}
     → o ≡ (wrongLength (length cp) (length p) || wrongLength (length cw) (length p) || (wrongLength (length e) (length p) || wrongLength (length j) (length p) || wrongLength (length lo) (length p + length xs / 2)))
     → (not (eqb (length w) (length p)) || not (eqb (length l) (length p)) || o || not (eqb (length xs % 2) 0)) ≡ wrongSeparate (net p w) xs (separateTables l (net cp cw) (workOf e j lo))
-unfolding wrongSeparate wrongCompared badWork wrongLength odd
+unfolding wrongSeparate wrongCompared badWork wrongLength notWhole
 wrong-lengths p w xs l cp cw e j lo z = rw (z, ← edges-length xs) refl
 
 -- the lengths where none is wrong
@@ -61,8 +61,8 @@ pub record Ready (of : Net) (a b : ℕ) (xs : List ℕ) (was : SeparateTables) :
   pub tells : Tellable of xs (was .compared) (was .work)
   pub faultless : firstFault (length (of .parents)) (edges xs) ≡ 0
 
-pub ready : (of : Net) (a b : ℕ) (xs : List ℕ) (was : SeparateTables) → readRefusal of a b xs (wrongSeparate of xs was) ≡ 0 → Ready of a b xs was
-unfolding readRefusal damaged
+pub ready : (of : Net) (a b : ℕ) (xs : List ℕ) (was : SeparateTables) → separateEarly of a b xs (wrongSeparate of xs was) ≡ 0 → Ready of a b xs was
+unfolding separateEarly damaged
 ready of a b xs was z =
     let c1 = first-none _ _ z in
     let c2 = first-none _ _ (c1 .1) in

@@ -27,7 +27,7 @@ use Rattle.ancestry.specs.Answer.{lowestOf, separatorOf}
 use Rattle.ancestry.specs.Steps.{Walkable}
 use Rattle.ancestry.proofs.Walk.{walkable-sound, walkable-few}
 use Rattle.ancestry.proofs.Common.{common-both, both-common, common-rising, climbs-common}
-use Rattle.separate.specs.Refused.{readRefusal}
+use Rattle.separate.specs.Refused.{separateEarly}
 use Rattle.separate.specs.Separate.{SeparateTables, wrongSeparate, grownRefusal, separateRefusal, separateOutcome}
 use Rattle.separate.specs.Separates.{Walk, root, Separates}
 use Rattle.separate.proofs.Refused.{Ready, ready}
@@ -97,7 +97,7 @@ module _ (of : Net) (a b : ℕ) (xs : List ℕ) (was : SeparateTables) (its : Se
   unfolding separateOutcome
   none-refused = accepted-none (separateRefusal of a b xs was) (separatorOf (commonAncestors (of .parents) a b)) answer
 
-  early : readRefusal of a b xs (wrongSeparate of xs was) ≡ 0
+  early : separateEarly of a b xs (wrongSeparate of xs was) ≡ 0
   unfolding separateRefusal
   early = first-none _ _ none-refused .0
 

@@ -9,7 +9,7 @@ use Rattle.game.specs.Edge.{edges}
 use Rattle.game.specs.Game.{absent, forest}
 use Rattle.game.specs.Tree.{sound, under}
 use Rattle.game.specs.Net.{Net, net, netOf, weights}
-use Rattle.refusal.specs.Refusal.{given, first, unless, badCount, wrongLength, odd, fault, firstFault}
+use Rattle.refusal.specs.Refusal.{given, first, unless, badCount, wrongLength, notWhole, fault, firstFault}
 use Rattle.refusal.specs.Verdict.{accepted, refused, judged}
 use Rattle.refusal.specs.Outcome.{Outcome, ended}
 use Rattle.net.specs.Damage.{damagedBy, damaged}
@@ -21,7 +21,7 @@ use Rattle.ancestry.specs.declared.Lowest.the-variants.{Vertex, Nothing}
 use Rattle.ancestry.specs.declared.Separator.{Separator}
 use Rattle.ancestry.specs.Common.{commonAncestors, related, atFront}
 use Rattle.ancestry.specs.Answer.{separator, lowestOf, separatorOf}
-use Rattle.separate.specs.Refused.{readRefusal}
+use Rattle.separate.specs.Refused.{separateEarly}
 use Rattle.separate.specs.Separate.{SeparateTables, separateTables, wrongSeparate, grownRefusal, separateRefusal, separateOutcome}
 
 -- the list of the whole case with a fault, 5, in front
@@ -70,5 +70,5 @@ printed =
     ∷ []
 
 pub example : computed ≡ printed
-unfolding computed printed whole own other others faulty trees lent left separateOutcome separateRefusal readRefusal grownRefusal wrongSeparate wrongCompared badWork listRefusal unlike sameNet sameTable first given unless judged badCount wrongLength odd fault firstFault damaged damagedBy sound sum cleared zeros netOf forest weights tabulate edges commonAncestors related under atFront separatorOf lowestOf member filtered
+unfolding computed printed whole own other others faulty trees lent left separateOutcome separateRefusal separateEarly grownRefusal wrongSeparate wrongCompared badWork listRefusal unlike sameNet sameTable first given unless judged badCount wrongLength notWhole fault firstFault damaged damagedBy sound sum cleared zeros netOf forest weights tabulate edges commonAncestors related under atFront separatorOf lowestOf member filtered
 example = refl

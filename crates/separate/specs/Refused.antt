@@ -14,8 +14,8 @@ use Rattle.net.specs.Damage.{damaged}
 use Rattle.compare.specs.Likeness.{listRefusal}
 
 -- what is decided by reading alone, or 0; `wrong` tells whether a length is wrong
-unfoldable pub readRefusal : Net → (a b : ℕ) → List ℕ → (wrong : Bool) → ℕ
-readRefusal of a b xs wrong =
+unfoldable pub separateEarly : Net → (a b : ℕ) → List ℕ → (wrong : Bool) → ℕ
+separateEarly of a b xs wrong =
     let n : ℕ = length (of .parents) in
     first
     (given (badCount n) 1

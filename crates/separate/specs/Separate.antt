@@ -13,7 +13,7 @@ use Prim.Native.Nat.{ℕ}
 use lib.ListN.{length}
 use Rattle.game.specs.Edge.{Edge, edges}
 use Rattle.game.specs.Net.{Net, netOf}
-use Rattle.refusal.specs.Refusal.{given, first, unless, wrongLength, odd}
+use Rattle.refusal.specs.Refusal.{given, first, unless, wrongLength, notWhole}
 use Rattle.refusal.specs.Verdict.{judged}
 use Rattle.refusal.specs.Outcome.{Outcome, ended}
 use Rattle.growth.specs.Work.{Work, cleared}
@@ -21,7 +21,7 @@ use Rattle.compare.specs.Compare.{wrongCompared, unlike}
 use Rattle.ancestry.specs.Common.{commonAncestors, related, atFront}
 use Rattle.ancestry.specs.declared.Separator.{Separator}
 use Rattle.ancestry.specs.Answer.{separatorOf}
-use Rattle.separate.specs.Refused.{readRefusal}
+use Rattle.separate.specs.Refused.{separateEarly}
 
 -- every table that the call is lent to write: the list's, the comparison tables, and the work tables
 pub record SeparateTables : Type 0 where
@@ -36,7 +36,7 @@ separateTables l c o = record { listed = l; compared = c; work = o }
 unfoldable pub wrongSeparate : Net → List ℕ → SeparateTables → Bool
 wrongSeparate of xs was =
     let n : ℕ = length (of .parents) in
-    wrongLength (length (of .weights)) n || wrongLength (length (was .listed)) n || wrongCompared n (length (edges xs)) (was .compared) (was .work) || odd xs
+    wrongLength (length (of .weights)) n || wrongLength (length (was .listed)) n || wrongCompared n (length (edges xs)) (was .compared) (was .work) || notWhole xs
 
 -- what is decided once the edges' net is grown, or 0
 unfoldable pub grownRefusal : Net → (a b : ℕ) → List Edge → ℕ
@@ -44,7 +44,7 @@ grownRefusal of a b es = first (unlike of es ∷ given (related (of .parents) a 
 
 -- the number for which the call is refused, or 0
 unfoldable pub separateRefusal : Net → (a b : ℕ) → List ℕ → SeparateTables → ℕ
-separateRefusal of a b xs was = first (readRefusal of a b xs (wrongSeparate of xs was) ∷ grownRefusal of a b (edges xs) ∷ [])
+separateRefusal of a b xs was = first (separateEarly of a b xs (wrongSeparate of xs was) ∷ grownRefusal of a b (edges xs) ∷ [])
 
 unfoldable pub separateOutcome : Net → (a b : ℕ) → List ℕ → SeparateTables → Outcome Separator SeparateTables
 separateOutcome of a b xs was =
@@ -52,5 +52,5 @@ separateOutcome of a b xs was =
     let ys : List ℕ = commonAncestors (of .parents) a b in
     ended
     (judged (separateRefusal of a b xs was) (separatorOf ys))
-    (unless (readRefusal of a b xs (wrongSeparate of xs was)) was
+    (unless (separateEarly of a b xs (wrongSeparate of xs was)) was
     (separateTables (unless (grownRefusal of a b es) (was .listed) (atFront ys (was .listed))) (netOf (length (of .parents)) es) (cleared (was .work))))

@@ -46,7 +46,7 @@ pub fn separate(
             lower.len(),
         )
         | (edges.len() % refusal::STRIDE != 0);
-    let code = refusals::read_refusal(parents, weights, one, other, edges, wrong);
+    let code = refusals::separate_early(parents, weights, one, other, edges, wrong);
     if code != 0 {
         return SeparatorAnswer::Refused(code);
     }

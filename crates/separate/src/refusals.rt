@@ -5,10 +5,10 @@ ghost use mathlib.Core.Path.{_≡_};
 ghost use mathlib.Core.Bool.{false};
 ghost use lib.ListN.{length};
 ghost use Rattle.game.specs.Net.{net};
-ghost use Rattle.separate.specs.Refused.{readRefusal};
+ghost use Rattle.separate.specs.Refused.{separateEarly};
 
 // The number for which the call is refused by reading alone, or 0. Whether a length is wrong was found out before.
-pub fn read_refusal(
+pub fn separate_early(
     parents: &[u32],
     weights: &[u32],
     one: u32,
@@ -17,7 +17,7 @@ pub fn read_refusal(
     wrong: bool,
 ) -> u32
     requires { ⌜ (wrong ≡ false → length (now weights) ≡ length (now parents)) ⌝ }
-    ensures { λ r. ⌜ r ≡ readRefusal (net (now (parents .entry)) (now (weights .entry))) one other (now (edges .entry)) wrong ⌝ }
+    ensures { λ r. ⌜ r ≡ separateEarly (net (now (parents .entry)) (now (weights .entry))) one other (now (edges .entry)) wrong ⌝ }
 {
     let n = parents.len();
     if refusal::bad_count(n) {

@@ -1,8 +1,8 @@
-// Tables: numbers as places in them, and whole tables filled with one number, found to hold one alone, or copied.
+// Numbers, as places in tables and as entries of them, and whole tables: filled with one number, found to hold one alone, or copied.
 ghost use mathlib.Core.Path.{_≡_};
 ghost use mathlib.Core.Bool.{true};
-ghost use Prim.Native.Nat.{_^_, _<_};
-ghost use lib.ListN.{length, replicate};
+ghost use Prim.Native.Nat.{_+_, _^_, _<_, min, max};
+ghost use lib.ListN.{length, getD, set, replicate};
 
 // A number as a place in a table.
 pub fn wide(x: u32) -> usize
@@ -24,6 +24,48 @@ pub fn amount(x: u32) -> u64
     ensures { λ r. ⌜ r ≡ x ⌝ }
 {
     x as u64
+}
+
+// The smaller of two numbers.
+pub fn smaller(a: u32, b: u32) -> u32
+    ensures { λ r. ⌜ r ≡ min a b ⌝ }
+{
+    if b < a { b } else { a }
+}
+
+// The larger of two numbers.
+pub fn larger(a: u32, b: u32) -> u32
+    ensures { λ r. ⌜ r ≡ max a b ⌝ }
+{
+    if a < b { b } else { a }
+}
+
+// The entry of a table at a place that is given as a number.
+pub fn read_at(table: &[u32], i: u32) -> u32
+    requires { ⌜ i < length (now table) ⌝ }
+    ensures { λ r. ⌜ r ≡ getD (now (table .entry)) i 0 ⌝ }
+{
+    let k = i as usize;
+    table[k]
+}
+
+// Stores v there.
+pub fn write_at(table: &mut [u32], i: u32, v: u32)
+    requires { ⌜ i < length (now table) ⌝ }
+    ensures { λ _. ⌜ now (table .exit) ≡ set (now (table .entry)) i v ⌝ }
+{
+    let k = i as usize;
+    table[k] = v;
+}
+
+// Adds v there.
+pub fn add_at(table: &mut [u32], i: u32, v: u32)
+    requires { ⌜ i < length (now table) ⌝ }
+    requires { ⌜ getD (now table) i 0 + v < 2 ^ 32 ⌝ }
+    ensures { λ _. ⌜ now (table .exit) ≡ set (now (table .entry)) i (getD (now (table .entry)) i 0 + v) ⌝ }
+{
+    let k = i as usize;
+    table[k] = table[k] + v;
 }
 
 // Sets every entry of a table to x.

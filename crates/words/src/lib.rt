@@ -5,7 +5,7 @@ ghost use lib.ListN.{length};
 ghost use lib.Seq.{sets};
 ghost use Rattle.words.specs.Word.{wordBytes, wordOf, wordAt};
 
-fn wide(x: u8) -> u32
+fn widen(x: u8) -> u32
     ensures { λ r. ⌜ r ≡ x ⌝ }
 {
     x as u32
@@ -15,7 +15,7 @@ fn wide(x: u8) -> u32
 pub fn word(a: u8, b: u8, c: u8, d: u8) -> u32
     ensures { λ r. ⌜ r ≡ wordOf a b c d ⌝ }
 {
-    wide(a) + 256 * wide(b) + 65_536 * wide(c) + 16_777_216 * wide(d)
+    widen(a) + 256 * widen(b) + 65_536 * widen(c) + 16_777_216 * widen(d)
 }
 
 // The word of the four bytes from place `at` on.
@@ -45,7 +45,7 @@ pub fn word_bytes(x: u32) -> [u8; 4]
 }
 
 // Stores four bytes from place `at` on.
-pub fn put(bytes: &mut [u8], at: usize, four: [u8; 4])
+pub fn put_word(bytes: &mut [u8], at: usize, four: [u8; 4])
     requires { ⌜ at + 4 ≤ length (now bytes) ⌝ }
     ensures { λ _. ⌜ now (bytes .exit) ≡ sets (now (bytes .entry)) at four ⌝ }
 {

@@ -16,11 +16,11 @@ abbrev μ-loop : tie.MeasureT-loop
 loop-holds : tie.Need-loop-holds Inv-loop μ-loop
 loop-holds c = (c .before .pre .0, inl (walk-start (c .before .pre .0) (c .before .pre .1) (c .before .pre .2)))
 
-lower-requires : tie.Need-lower-requires Inv-loop μ-loop
-lower-requires c κs = search needs
+smaller-requires : tie.Need-smaller-requires Inv-loop μ-loop
+smaller-requires c κs = search needs
 
-higher-requires : tie.Need-higher-requires Inv-loop μ-loop
-higher-requires c κs = search needs
+larger-requires : tie.Need-larger-requires Inv-loop μ-loop
+larger-requires c κs = search needs
 
 cast-a : tie.Need-cast-a Inv-loop μ-loop
 cast-a c = search needs
@@ -29,13 +29,13 @@ mul-a : tie.Need-mul-a Inv-loop μ-loop
 mul-a c = search needs
 
 shared-slice-read-a : tie.Need-shared-slice-read-a Inv-loop μ-loop
-shared-slice-read-a c = walks-low (c .before .before .before .before .loop .inv .0) (c .before .before .before .before .loop .inv .1) (c .before .before .before .loop-test .taken) (c .before .before .lower .ensures) (c .before .higher .ensures)
+shared-slice-read-a c = walks-low (c .before .before .before .before .loop .inv .0) (c .before .before .before .before .loop .inv .1) (c .before .before .before .loop-test .taken) (c .before .before .smaller .ensures) (c .before .larger .ensures)
 
 loop-less : tie.Need-loop-less Inv-loop μ-loop
-loop-less c = walks-less (c .before .before .before .before .loop .inv .0) (c .before .before .before .before .loop .inv .1) (c .before .before .before .loop-test .taken) (c .before .before .lower .ensures) (c .before .higher .ensures)
+loop-less c = walks-less (c .before .before .before .before .loop .inv .0) (c .before .before .before .before .loop .inv .1) (c .before .before .before .loop-test .taken) (c .before .before .smaller .ensures) (c .before .larger .ensures)
 
 loop-again : tie.Need-loop-again Inv-loop μ-loop
-loop-again c = (c .before .before .before .before .loop .inv .0, walks-step (c .before .before .before .before .loop .inv .0) (c .before .before .before .before .loop .inv .1) (c .before .before .before .loop-test .taken) (c .before .before .lower .ensures) (c .before .higher .ensures))
+loop-again c = (c .before .before .before .before .loop .inv .0, walks-step (c .before .before .before .before .loop .inv .0) (c .before .before .before .before .loop .inv .1) (c .before .before .before .loop-test .taken) (c .before .before .smaller .ensures) (c .before .larger .ensures))
 
 returns : tie.Need-returns Inv-loop μ-loop
 returns c = walks-end (c .before .loop .inv .0) (c .before .loop .inv .1) (c .loop-test .left)
@@ -47,8 +47,8 @@ lowest-common-spec =
     Inv-loop
     μ-loop
     loop-holds
-    lower-requires
-    higher-requires
+    smaller-requires
+    larger-requires
     cast-a
     mul-a
     shared-slice-read-a

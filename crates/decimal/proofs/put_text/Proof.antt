@@ -1,14 +1,14 @@
 use native.Mathlib.Omega.{arith}
 use Prim.Native.Nat.{_-_, _≤_}
 use lib.ListN.{length, take}
-use Rattle.decimal.specs.Put.{Put}
+use Rattle.decimal.specs.Put.{PutText}
 use Rattle.decimal.proofs.Runs.{put-length, put-none, put-next, put-room, put-all}
 use borrow.Author.Needs.{needs}
 use Rattle.decimal.proofs.put_text.Statement.{statement}
 use Rattle.decimal.proofs.put_text.Tie as tie
 
 abbrev Inv-loop : tie.InvT-loop
-Inv-loop out₀ at text end₀ i₀ out end i = (i ≤ length text) × Put out₀ at (take i text) out end
+Inv-loop out₀ at text end₀ i₀ out end i = (i ≤ length text) × PutText out₀ at (take i text) out end
 
 abbrev μ-loop : tie.MeasureT-loop
 μ-loop out₀ at text end₀ i₀ out end i = length text - i

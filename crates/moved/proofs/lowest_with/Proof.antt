@@ -16,12 +16,12 @@ shared-slice-read-if2 c = search needs
 returns-2 : tie.Need-returns-2
 returns-2 c = sym (moved-same _ _ (c .if2 .taken))
 
-lower-requires : tie.Need-lower-requires
-lower-requires c κs = search needs
+smaller-requires : tie.Need-smaller-requires
+smaller-requires c κs = search needs
 
 returns-3 : tie.Need-returns-3
-returns-3 c = c .lower .ensures ∙ sym (moved-other _ _ (c .before .if2 .left))
+returns-3 c = c .smaller .ensures ∙ sym (moved-other _ _ (c .before .if2 .left))
 
 pub lowest-with-spec : {M : Type 1} → statement M
 lowest-with-spec =
-    tie.close (tie.spec returns mul-if2 shared-slice-read-if2 returns-2 lower-requires returns-3)
+    tie.close (tie.spec returns mul-if2 shared-slice-read-if2 returns-2 smaller-requires returns-3)

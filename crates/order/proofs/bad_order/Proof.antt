@@ -42,11 +42,11 @@ returns-2 c =
     sym
     (read-again (c .before .before .before .before .before .before .before .loop .inv) (c .before .before .before .before .before .before .loop-test .taken) (c .before .before .before .before .wide .ensures) (sym (c .before .contains .ensures) ∙ c .if2 .taken))
 
-slice-aggregate-insert : tie.Need-slice-aggregate-insert Inv-loop μ-loop
-slice-aggregate-insert c = sym (c .before .before .before .before .before .before .before .before .loop .inv .size)
+slice-aggregate-insert-vertex : tie.Need-slice-aggregate-insert-vertex Inv-loop μ-loop
+slice-aggregate-insert-vertex c = sym (c .before .before .before .before .before .before .before .before .loop .inv .size)
 
-insert-requires : tie.Need-insert-requires Inv-loop μ-loop
-insert-requires c κs =
+insert-vertex-requires : tie.Need-insert-vertex-requires Inv-loop μ-loop
+insert-vertex-requires c κs =
     let r = c .before .before .before .before .before .before .before .before .loop .inv in
     let l = c .before .before .before .before .before .before .before .loop-test .taken in
     let e = c .before .before .before .before .before .wide .ensures in
@@ -59,7 +59,7 @@ loop-less c = search needs
 loop-again : tie.Need-loop-again Inv-loop μ-loop
 loop-again c =
     read-on (c .before .before .before .before .before .before .before .before .before .before .loop .inv) (c .before .before .before .before .before .before .before .before .before .loop-test .taken) (c .before .before .before .before .before .before .before .wide .ensures)
-    (c .before .before .before .before .before .before .before .before .before .before .before .before .pre) (c .before .before .before .before .before .before .if1 .left) (sym (c .before .before .before .before .contains .ensures) ∙ c .before .before .before .if2 .left) (c .before .insert .ensures)
+    (c .before .before .before .before .before .before .before .before .before .before .before .before .pre) (c .before .before .before .before .before .before .if1 .left) (sym (c .before .before .before .before .contains .ensures) ∙ c .before .before .before .if2 .left) (c .before .insert-vertex .ensures)
 
 returns-3 : tie.Need-returns-3 Inv-loop μ-loop
 returns-3 c = sym (read-all (c .before .loop .inv) (c .loop-test .left))
@@ -79,8 +79,8 @@ bad-order-spec =
     slice-aggregate-contains
     contains-requires
     returns-2
-    slice-aggregate-insert
-    insert-requires
+    slice-aggregate-insert-vertex
+    insert-vertex-requires
     loop-less
     loop-again
     returns-3)

@@ -25,8 +25,8 @@ returns-2 c =
     (pass _ _ (ne-eqb _ _ (c .before .before .if1 .left))
     ∙ stop _ _ (sym (c .before .bad-count .ensures) ∙ c .if2 .taken))
 
-is-rising-requires : tie.Need-is-rising-requires
-is-rising-requires c κs = search needs
+starts-rise-requires : tie.Need-starts-rise-requires
+starts-rise-requires c κs = search needs
 
 returns-3 : tie.Need-returns-3
 unfolding queryRefusal vertices
@@ -34,7 +34,7 @@ returns-3 c =
     sym
     (pass _ _ (ne-eqb _ _ (c .before .before .before .before .if1 .left))
     ∙ pass _ _ (sym (c .before .before .before .bad-count .ensures) ∙ c .before .before .if2 .left)
-    ∙ stop _ _ (ap not (sym (c .before .is-rising .ensures)) ∙ c .if3 .taken))
+    ∙ stop _ _ (ap not (sym (c .before .starts-rise .ensures)) ∙ c .if3 .taken))
 
 wide-requires : tie.Need-wide-requires
 wide-requires c κs = search needs
@@ -45,7 +45,7 @@ returns-4 c =
     sym
     (pass _ _ (ne-eqb _ _ (c .before .before .before .before .before .before .if1 .left))
     ∙ pass _ _ (sym (c .before .before .before .before .before .bad-count .ensures) ∙ c .before .before .before .before .if2 .left)
-    ∙ pass _ _ (ap not (sym (c .before .before .before .is-rising .ensures)) ∙ c .before .before .if3 .left)
+    ∙ pass _ _ (ap not (sym (c .before .before .before .starts-rise .ensures)) ∙ c .before .before .if3 .left)
     ∙ stop _ _ (le-leb _ _ (rw (c .before .wide .ensures) at (c .if4 .taken))))
 
 returns-5 : tie.Need-returns-5
@@ -54,7 +54,7 @@ returns-5 c =
     sym
     (pass _ _ (ne-eqb _ _ (c .before .before .before .before .before .before .if1 .left))
     ∙ pass _ _ (sym (c .before .before .before .before .before .bad-count .ensures) ∙ c .before .before .before .before .if2 .left)
-    ∙ pass _ _ (ap not (sym (c .before .before .before .is-rising .ensures)) ∙ c .before .before .if3 .left)
+    ∙ pass _ _ (ap not (sym (c .before .before .before .starts-rise .ensures)) ∙ c .before .before .if3 .left)
     ∙ pass _ _ (lt-leb _ _ (rw (c .before .wide .ensures) at (c .if4 .left)))
     ∙ first-end)
 
@@ -66,7 +66,7 @@ query-refusal-spec =
     sub-n
     bad-count-requires
     returns-2
-    is-rising-requires
+    starts-rise-requires
     returns-3
     wide-requires
     returns-4

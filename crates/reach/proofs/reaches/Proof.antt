@@ -40,8 +40,8 @@ count-overlaps-requires c κs =
 copy-requires : tie.Need-copy-requires
 copy-requires c κs = let (es, g, f, m) = c .before .before .before .before .before .before .before .before .before .before .before .before .before .before .before .before .before .before .before .before .before .before .before .before .before .before .before .before .before .before .before .before .before .before .before .before .before .before .before .before .before .pre .0 in c .before .before .before .before .before .before .before .before .before .before .before .before .before .before .before .before .before .before .before .before .fill-slots .kept .1 .1 .1 .1 .0 ∙ c .before .before .before .before .before .before .before .before .before .before .before .before .before .before .before .before .before .before .before .before .before .before .before .before .before .before .before .before .before .before .before .before .before .before .before .before .before .before .before .before .before .pre .1 .0 ∙ sym (net-summable g .entries)
 
-settle-requires : tie.Need-settle-requires
-settle-requires c κs =
+sum-reaches-requires : tie.Need-sum-reaches-requires
+sum-reaches-requires c κs =
     let (es, g, f, m) = c .before .before .before .before .before .before .before .before .before .before .before .before .before .before .before .before .before .before .before .before .before .before .before .before .before .before .before .before .before .before .before .before .before .before .before .before .before .before .before .before .before .before .before .before .before .before .pre .0 in
     let (er, ee, ea, ep, eo) = c .before .before .before .before .before .before .before .before .before .before .before .before .before .before .before .before .before .before .before .before .before .before .before .before .before .before .before .before .before .before .before .before .before .before .before .before .before .before .before .before .before .before .before .before .before .before .pre .1 in
     let l = c .before .before .before .before .before .before .before .before .before .before .before .before .before .before .before .before .before .before .before .before .before .before .before .before .before .before .before .before .before .before .before .before .before .lay-out .ensures in
@@ -84,7 +84,7 @@ returns c = λ es g f.
     let (filed, content, marked) = c .before .before .before .before .before .before .before .before .before .before .before .before .before .before .before .before .before .before .before .before .before .before .before .before .before .before .before .before .fill-slots .ensures _ _ es (own-filed g f) (net-fileable (regrouped g f) l e) in
     let k = c .before .before .before .before .before .before .before .before .before .before .before .before .before .before .before .before .before .before .before .before .before .before .before .before .before .before .before .before .fill-slots .kept in
     let s = net-slotted (regrouped g f) l e (k .1 .1 .1 .1 .1 .0) (k .1 .1 .1 .1 .0 ∙ er) content marked in
-    c .before .before .settle .ensures _ (rw (c .before .before .before .before .before .before .before .copy .ensures) (c .before .before .before .before .before .before .before .before .before .before .before .before .before .before .before .count-overlaps .ensures _ filed _ s)) ∙ reach-regrouped g f
+    c .before .before .sum-reaches .ensures _ (rw (c .before .before .before .before .before .before .before .copy .ensures) (c .before .before .before .before .before .before .before .before .before .before .before .before .before .before .before .count-overlaps .ensures _ filed _ s)) ∙ reach-regrouped g f
 
 pub reaches-spec : {M : Type 1} → statement M
 reaches-spec =
@@ -95,7 +95,7 @@ reaches-spec =
     fill-slots-requires
     count-overlaps-requires
     copy-requires
-    settle-requires
+    sum-reaches-requires
     same-length
     same-length-2
     same-length-3

@@ -9,62 +9,62 @@ use Rattle.run_report.proofs.Dividing.{grown-again, to-report, put-rank
 array-borrow-prefix-ranked : tie.Need-array-borrow-prefix-ranked
 array-borrow-prefix-ranked c = ends-fit (c .before .before .before .pre .0 .0)
 
-slice-aggregate-grow : tie.Need-slice-aggregate-grow
-slice-aggregate-grow c = part-counted endCapacity _ (ends-fit (c .before .before .before .before .pre .0 .0))
+slice-aggregate-grow-ranked : tie.Need-slice-aggregate-grow-ranked
+slice-aggregate-grow-ranked c = part-counted endCapacity _ (ends-fit (c .before .before .before .before .pre .0 .0))
 
 array-borrow-prefix-parents : tie.Need-array-borrow-prefix-parents
 array-borrow-prefix-parents c = search needs
 
-slice-aggregate-grow-2 : tie.Need-slice-aggregate-grow-2
-slice-aggregate-grow-2 c = part-counted vertexCapacity _ (c .before .before .before .before .before .pre .0 .0 .vertices)
+slice-aggregate-grow-ranked-2 : tie.Need-slice-aggregate-grow-ranked-2
+slice-aggregate-grow-ranked-2 c = part-counted vertexCapacity _ (c .before .before .before .before .before .pre .0 .0 .vertices)
 
 array-borrow-prefix-weights : tie.Need-array-borrow-prefix-weights
 array-borrow-prefix-weights c = search needs
 
-slice-aggregate-grow-3 : tie.Need-slice-aggregate-grow-3
-slice-aggregate-grow-3 c = part-counted vertexCapacity _ (c .before .before .before .before .before .before .pre .0 .0 .vertices)
+slice-aggregate-grow-ranked-3 : tie.Need-slice-aggregate-grow-ranked-3
+slice-aggregate-grow-ranked-3 c = part-counted vertexCapacity _ (c .before .before .before .before .before .before .pre .0 .0 .vertices)
 
-grow-requires : tie.Need-grow-requires
-grow-requires c κs = (c .before .before .before .before .before .before .pre .0 .0, grow-room (c .before .before .before .before .before .before .pre .0 .0))
+grow-ranked-requires : tie.Need-grow-ranked-requires
+grow-ranked-requires c κs = (c .before .before .before .before .before .before .pre .0 .0, grow-room (c .before .before .before .before .before .before .pre .0 .0))
 
 array-share-prefix-ranked : tie.Need-array-share-prefix-ranked
-array-share-prefix-ranked c = front-fits endCapacity _ (ends-fit (c .before .before .before .before .before .before .before .before .before .before .pre .0 .0)) (c .before .before .before .grow .last .1 .1 .0) (c .before .before .before .grow .kept .1 .1 .0)
+array-share-prefix-ranked c = front-fits endCapacity _ (ends-fit (c .before .before .before .before .before .before .before .before .before .before .pre .0 .0)) (c .before .before .before .grow-ranked .last .1 .1 .0) (c .before .before .before .grow-ranked .kept .1 .1 .0)
 
 slice-aggregate-report-on : tie.Need-slice-aggregate-report-on
-slice-aggregate-report-on c = front-counted endCapacity _ (ends-fit (c .before .before .before .before .before .before .before .before .before .before .before .pre .0 .0)) (c .before .before .before .before .grow .last .1 .1 .0) (c .before .before .before .before .grow .kept .1 .1 .0)
+slice-aggregate-report-on c = front-counted endCapacity _ (ends-fit (c .before .before .before .before .before .before .before .before .before .before .before .pre .0 .0)) (c .before .before .before .before .grow-ranked .last .1 .1 .0) (c .before .before .before .before .grow-ranked .kept .1 .1 .0)
 
 array-share-prefix-parents : tie.Need-array-share-prefix-parents
-array-share-prefix-parents c = front-fits vertexCapacity _ (c .before .before .before .before .before .before .before .before .before .before .before .pre .0 .0 .vertices) (c .before .before .before .before .grow .last .1 .1 .1 .0) (c .before .before .before .before .grow .kept .1 .1 .1 .0)
+array-share-prefix-parents c = front-fits vertexCapacity _ (c .before .before .before .before .before .before .before .before .before .before .before .pre .0 .0 .vertices) (c .before .before .before .before .grow-ranked .last .1 .1 .1 .0) (c .before .before .before .before .grow-ranked .kept .1 .1 .1 .0)
 
 slice-aggregate-report-on-2 : tie.Need-slice-aggregate-report-on-2
-slice-aggregate-report-on-2 c = front-counted vertexCapacity _ (c .before .before .before .before .before .before .before .before .before .before .before .before .pre .0 .0 .vertices) (c .before .before .before .before .before .grow .last .1 .1 .1 .0) (c .before .before .before .before .before .grow .kept .1 .1 .1 .0)
+slice-aggregate-report-on-2 c = front-counted vertexCapacity _ (c .before .before .before .before .before .before .before .before .before .before .before .before .pre .0 .0 .vertices) (c .before .before .before .before .before .grow-ranked .last .1 .1 .1 .0) (c .before .before .before .before .before .grow-ranked .kept .1 .1 .1 .0)
 
 array-share-prefix-weights : tie.Need-array-share-prefix-weights
-array-share-prefix-weights c = front-fits vertexCapacity _ (c .before .before .before .before .before .before .before .before .before .before .before .before .pre .0 .0 .vertices) (c .before .before .before .before .before .grow .last .1 .1 .1 .1 .0) (c .before .before .before .before .before .grow .kept .1 .1 .1 .1 .0)
+array-share-prefix-weights c = front-fits vertexCapacity _ (c .before .before .before .before .before .before .before .before .before .before .before .before .pre .0 .0 .vertices) (c .before .before .before .before .before .grow-ranked .last .1 .1 .1 .1 .0) (c .before .before .before .before .before .grow-ranked .kept .1 .1 .1 .1 .0)
 
 slice-aggregate-report-on-3 : tie.Need-slice-aggregate-report-on-3
-slice-aggregate-report-on-3 c = front-counted vertexCapacity _ (c .before .before .before .before .before .before .before .before .before .before .before .before .before .pre .0 .0 .vertices) (c .before .before .before .before .before .before .grow .last .1 .1 .1 .1 .0) (c .before .before .before .before .before .before .grow .kept .1 .1 .1 .1 .0)
+slice-aggregate-report-on-3 c = front-counted vertexCapacity _ (c .before .before .before .before .before .before .before .before .before .before .before .before .before .pre .0 .0 .vertices) (c .before .before .before .before .before .before .grow-ranked .last .1 .1 .1 .1 .0) (c .before .before .before .before .before .before .grow-ranked .kept .1 .1 .1 .1 .0)
 
 report-on-requires : tie.Need-report-on-requires
-report-on-requires c κs = (to-report (c .before .before .before .before .before .before .before .before .before .before .before .before .before .before .pre .0 .0) (grown-again (c .before .before .before .before .before .before .before .grow .ensures) (front-is endCapacity _ (ends-fit (c .before .before .before .before .before .before .before .before .before .before .before .before .before .before .pre .0 .0)) (c .before .before .before .before .before .before .before .grow .last .1 .1 .0) (c .before .before .before .before .before .before .before .grow .kept .1 .1 .0)) (front-is vertexCapacity _ (c .before .before .before .before .before .before .before .before .before .before .before .before .before .before .pre .0 .0 .vertices) (c .before .before .before .before .before .before .before .grow .last .1 .1 .1 .0) (c .before .before .before .before .before .before .before .grow .kept .1 .1 .1 .0)) (front-is vertexCapacity _ (c .before .before .before .before .before .before .before .before .before .before .before .before .before .before .pre .0 .0 .vertices) (c .before .before .before .before .before .before .before .grow .last .1 .1 .1 .1 .0) (c .before .before .before .before .before .before .before .grow .kept .1 .1 .1 .1 .0))) (c .before .before .before .before .before .before .before .before .before .before .before .before .before .before .pre .0 .1), c .before .before .before .before .before .before .before .before .before .before .before .before .before .before .pre .1)
+report-on-requires c κs = (to-report (c .before .before .before .before .before .before .before .before .before .before .before .before .before .before .pre .0 .0) (grown-again (c .before .before .before .before .before .before .before .grow-ranked .ensures) (front-is endCapacity _ (ends-fit (c .before .before .before .before .before .before .before .before .before .before .before .before .before .before .pre .0 .0)) (c .before .before .before .before .before .before .before .grow-ranked .last .1 .1 .0) (c .before .before .before .before .before .before .before .grow-ranked .kept .1 .1 .0)) (front-is vertexCapacity _ (c .before .before .before .before .before .before .before .before .before .before .before .before .before .before .pre .0 .0 .vertices) (c .before .before .before .before .before .before .before .grow-ranked .last .1 .1 .1 .0) (c .before .before .before .before .before .before .before .grow-ranked .kept .1 .1 .1 .0)) (front-is vertexCapacity _ (c .before .before .before .before .before .before .before .before .before .before .before .before .before .before .pre .0 .0 .vertices) (c .before .before .before .before .before .before .before .grow-ranked .last .1 .1 .1 .1 .0) (c .before .before .before .before .before .before .before .grow-ranked .kept .1 .1 .1 .1 .0))) (c .before .before .before .before .before .before .before .before .before .before .before .before .before .before .pre .0 .1), c .before .before .before .before .before .before .before .before .before .before .before .before .before .before .pre .1)
 
 same-length : tie.Need-same-length
 same-length c = search needs
 
 returns : tie.Need-returns
-returns c = put-ranked (c .before .before .before .before .before .before .before .before .before .before .before .before .before .before .before .before .before .pre .0 .0) (grown-again (c .before .before .before .before .before .before .before .before .before .before .grow .ensures) (front-is endCapacity _ (ends-fit (c .before .before .before .before .before .before .before .before .before .before .before .before .before .before .before .before .before .pre .0 .0)) (c .before .before .before .before .before .before .before .before .before .before .grow .last .1 .1 .0) (c .before .before .before .before .before .before .before .before .before .before .grow .kept .1 .1 .0)) (front-is vertexCapacity _ (c .before .before .before .before .before .before .before .before .before .before .before .before .before .before .before .before .before .pre .0 .0 .vertices) (c .before .before .before .before .before .before .before .before .before .before .grow .last .1 .1 .1 .0) (c .before .before .before .before .before .before .before .before .before .before .grow .kept .1 .1 .1 .0)) (front-is vertexCapacity _ (c .before .before .before .before .before .before .before .before .before .before .before .before .before .before .before .before .before .pre .0 .0 .vertices) (c .before .before .before .before .before .before .before .before .before .before .grow .last .1 .1 .1 .1 .0) (c .before .before .before .before .before .before .before .before .before .before .grow .kept .1 .1 .1 .1 .0))) _ _ (c .before .before .report-on .ensures)
+returns c = put-ranked (c .before .before .before .before .before .before .before .before .before .before .before .before .before .before .before .before .before .pre .0 .0) (grown-again (c .before .before .before .before .before .before .before .before .before .before .grow-ranked .ensures) (front-is endCapacity _ (ends-fit (c .before .before .before .before .before .before .before .before .before .before .before .before .before .before .before .before .before .pre .0 .0)) (c .before .before .before .before .before .before .before .before .before .before .grow-ranked .last .1 .1 .0) (c .before .before .before .before .before .before .before .before .before .before .grow-ranked .kept .1 .1 .0)) (front-is vertexCapacity _ (c .before .before .before .before .before .before .before .before .before .before .before .before .before .before .before .before .before .pre .0 .0 .vertices) (c .before .before .before .before .before .before .before .before .before .before .grow-ranked .last .1 .1 .1 .0) (c .before .before .before .before .before .before .before .before .before .before .grow-ranked .kept .1 .1 .1 .0)) (front-is vertexCapacity _ (c .before .before .before .before .before .before .before .before .before .before .before .before .before .before .before .before .before .pre .0 .0 .vertices) (c .before .before .before .before .before .before .before .before .before .before .grow-ranked .last .1 .1 .1 .1 .0) (c .before .before .before .before .before .before .before .before .before .before .grow-ranked .kept .1 .1 .1 .1 .0))) _ _ (c .before .before .report-on .ensures)
 
 pub divide-spec : {M : Type 1} → statement M
 divide-spec =
     tie.close
     (tie.spec
     array-borrow-prefix-ranked
-    slice-aggregate-grow
+    slice-aggregate-grow-ranked
     array-borrow-prefix-parents
-    slice-aggregate-grow-2
+    slice-aggregate-grow-ranked-2
     array-borrow-prefix-weights
-    slice-aggregate-grow-3
-    grow-requires
+    slice-aggregate-grow-ranked-3
+    grow-ranked-requires
     array-share-prefix-ranked
     slice-aggregate-report-on
     array-share-prefix-parents

@@ -6,17 +6,17 @@ use Rattle.save.proofs.put_record.Tie as tie
 parent-bytes-requires : tie.Need-parent-bytes-requires
 parent-bytes-requires c κs = search needs
 
-put-requires : tie.Need-put-requires
-put-requires c κs = search needs
+put-word-requires : tie.Need-put-word-requires
+put-word-requires c κs = search needs
 
-add-put : tie.Need-add-put
-add-put c = search needs
+add-put-word : tie.Need-add-put-word
+add-put-word c = search needs
 
 word-bytes-requires : tie.Need-word-bytes-requires
 word-bytes-requires c κs = search needs
 
-put-requires-2 : tie.Need-put-requires-2
-put-requires-2 c κs = search needs
+put-word-requires-2 : tie.Need-put-word-requires-2
+put-word-requires-2 c κs = search needs
 
 same-length : tie.Need-same-length
 same-length c = search needs
@@ -29,9 +29,9 @@ put-record-spec =
     tie.close
     (tie.spec
     parent-bytes-requires
-    put-requires
-    add-put
+    put-word-requires
+    add-put-word
     word-bytes-requires
-    put-requires-2
+    put-word-requires-2
     same-length
     returns)

@@ -3,11 +3,11 @@ use Rattle.words.specs.Word.{wordOf}
 use Rattle.words.proofs.word.Statement.{statement}
 use Rattle.words.proofs.word.Tie as tie
 
-wide-requires : tie.Need-wide-requires
-wide-requires c κs = search needs
+widen-requires : tie.Need-widen-requires
+widen-requires c κs = search needs
 
-wide-requires-2 : tie.Need-wide-requires-2
-wide-requires-2 c κs = search needs
+widen-requires-2 : tie.Need-widen-requires-2
+widen-requires-2 c κs = search needs
 
 mul-result : tie.Need-mul-result
 mul-result c = search needs
@@ -15,8 +15,8 @@ mul-result c = search needs
 add-result : tie.Need-add-result
 add-result c = search needs
 
-wide-requires-3 : tie.Need-wide-requires-3
-wide-requires-3 c κs = search needs
+widen-requires-3 : tie.Need-widen-requires-3
+widen-requires-3 c κs = search needs
 
 mul-result-2 : tie.Need-mul-result-2
 mul-result-2 c = search needs
@@ -24,8 +24,8 @@ mul-result-2 c = search needs
 add-result-2 : tie.Need-add-result-2
 add-result-2 c = search needs
 
-wide-requires-4 : tie.Need-wide-requires-4
-wide-requires-4 c κs = search needs
+widen-requires-4 : tie.Need-widen-requires-4
+widen-requires-4 c κs = search needs
 
 mul-result-3 : tie.Need-mul-result-3
 mul-result-3 c = search needs
@@ -41,14 +41,14 @@ pub word-spec : {M : Type 1} → statement M
 word-spec =
     tie.close
     (tie.spec
-    wide-requires
-    wide-requires-2
+    widen-requires
+    widen-requires-2
     mul-result
     add-result
-    wide-requires-3
+    widen-requires-3
     mul-result-2
     add-result-2
-    wide-requires-4
+    widen-requires-4
     mul-result-3
     add-result-3
     returns)

@@ -40,7 +40,7 @@ returns c =
     let r = c .before .before .before .before .before .before .before .before .raise .ensures .0 in
     record {
       grown = record {
-        parents = λ E k f i. new-whole (omega (arith, g .buckets .few)) k (g .long) (c .before .before .before .before .before .before .before .before .raise .kept .1 .1 .1 .1 .0 ∙ g .long) i (r .untouched) (r .raised E k f);
+        parents = λ E k f i. new-whole (omega (arith, g .buckets .few)) k (g .long) (c .before .before .before .before .before .before .before .before .raise .kept .0 ∙ g .long) i (r .untouched) (r .raised E k f);
         weighed = λ E f. weighs-graph f (r .last) (r .weighed);
       };
       kept = read-kept (r .leaves);

@@ -34,10 +34,10 @@ record Turn (keep : Bool) (ends was weights₀ before jumps lower weights p jump
   raised : (E : List Edge) → Proper (length ends) E → Filed (length ends) E ends was → Raised (length ends) E y (newParents p jump) jump
 
 abbrev Inv-loop : tie.InvT-loop
-Inv-loop keep ends lower₀ weights₀ parents₀ jump₀ moved₀ at₀ y₀ lower weights parents jump moved at y = Turn keep ends lower₀ weights₀ parents₀ jump₀ lower weights parents jump moved at y
+Inv-loop parents₀ weights₀ keep ends jump₀ lower₀ moved₀ at₀ y₀ parents weights jump lower moved at y = Turn keep ends lower₀ weights₀ parents₀ jump₀ lower weights parents jump moved at y
 
 abbrev μ-loop : tie.MeasureT-loop
-μ-loop keep ends lower₀ weights₀ parents₀ jump₀ moved₀ at₀ y₀ lower weights parents jump moved at y = length ends - y
+μ-loop parents₀ weights₀ keep ends jump₀ lower₀ moved₀ at₀ y₀ parents weights jump lower moved at y = length ends - y
 
 loop-holds : tie.Need-loop-holds Inv-loop μ-loop
 unfolding begin
@@ -140,16 +140,16 @@ loop-again c =
     }
 
 same-length : tie.Need-same-length Inv-loop μ-loop
-same-length c = search needs
+same-length c = c .before .loop .inv .same ∙ sym (c .before .before .before .before .before .before .before .pre .long)
 
 same-length-2 : tie.Need-same-length-2 Inv-loop μ-loop
 same-length-2 c = search needs
 
 same-length-3 : tie.Need-same-length-3 Inv-loop μ-loop
-same-length-3 c = c .before .loop .inv .same ∙ sym (c .before .before .before .before .before .before .before .pre .long)
+same-length-3 c = c .before .loop .inv .upward .long ∙ sym (ap length (c .before .before .before .before .before .before .before .pre .blank-jump) ∙ length-replicate _ absent)
 
 same-length-4 : tie.Need-same-length-4 Inv-loop μ-loop
-same-length-4 c = c .before .loop .inv .upward .long ∙ sym (ap length (c .before .before .before .before .before .before .before .pre .blank-jump) ∙ length-replicate _ absent)
+same-length-4 c = search needs
 
 returns : tie.Need-returns Inv-loop μ-loop
 returns c =

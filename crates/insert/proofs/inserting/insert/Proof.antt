@@ -68,8 +68,8 @@ regrow-requires c κs =
     let u = c .before .before .before .before .before .before .before .before .before .before .before .before .before .before .before .before .put-some .ensures .0 in
     filed-growable (c .before .before .before .before .before .before .before .before .file-edges .ensures) (omega (arith, u .same, s .pre .table .few)) refl (omega (arith, u .same, s .pre .long-jump))
 
-lower-requires : tie.Need-lower-requires
-lower-requires c κs = search needs
+smaller-requires : tie.Need-smaller-requires
+smaller-requires c κs = search needs
 
 same-length-5 : tie.Need-same-length-5
 same-length-5 c = search needs
@@ -95,7 +95,7 @@ returns-2 c =
         grown = rest-grown (s .pre) u y (f .file-edges .ensures) (g .0);
         clear = g .0 .clear ∙ same-room _ _ _ _ _ _ (f .file-edges .kept .1 .1 .0) refl (f .file-edges .kept .1 .1 .1 .0);
       },
-      rest-moved (s .pre) u y (f .file-edges .ensures) (g .0) (p .put-some .ensures .1) (g .1) (c .lower4 .ensures),
+      rest-moved (s .pre) u y (f .file-edges .ensures) (g .0) (p .put-some .ensures .1) (g .1) (c .smaller .ensures),
     )
 
 pub insert-spec : {M : Type 1} → statement M
@@ -117,7 +117,7 @@ insert-spec =
     part-file-edges-end
     file-edges-requires
     regrow-requires
-    lower-requires
+    smaller-requires
     same-length-5
     same-length-6
     same-length-7

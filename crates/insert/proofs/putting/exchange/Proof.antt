@@ -17,8 +17,8 @@ mul-parents c = search needs
 slice-write-parents : tie.Need-slice-write-parents
 slice-write-parents c = search needs
 
-lower-requires : tie.Need-lower-requires
-lower-requires c κs = search needs
+smaller-requires : tie.Need-smaller-requires
+smaller-requires c κs = search needs
 
 same-length : tie.Need-same-length
 same-length c = search needs
@@ -26,7 +26,7 @@ same-length c = search needs
 returns : tie.Need-returns
 returns c =
     let (t, up, inside) = c .before .before .before .before .pre in
-    (exchanged-root t up inside (c .before .if1 .taken), exchanged-lower t up inside (c .lower .ensures) (omega (arith, c .before .if1 .taken, t .few)))
+    (exchanged-root t up inside (c .before .if1 .taken), exchanged-lower t up inside (c .smaller .ensures) (omega (arith, c .before .if1 .taken, t .few)))
 
 returns-2 : tie.Need-returns-2
 returns-2 c =
@@ -39,8 +39,8 @@ mul-parents-2 c = search needs
 slice-write-parents-2 : tie.Need-slice-write-parents-2
 slice-write-parents-2 c = search needs
 
-lower-requires-2 : tie.Need-lower-requires-2
-lower-requires-2 c κs = search needs
+smaller-requires-2 : tie.Need-smaller-requires-2
+smaller-requires-2 c κs = search needs
 
 same-length-2 : tie.Need-same-length-2
 same-length-2 c = search needs
@@ -48,7 +48,7 @@ same-length-2 c = search needs
 returns-3 : tie.Need-returns-3
 returns-3 c =
     let (t, up, inside) = c .before .before .before .before .before .pre in
-    (exchanged-swap t up inside (c .before .before .if1 .left) (c .before .if2 .left), exchanged-lower t up inside (c .lower2 .ensures) (omega (arith, c .before .if2 .left)))
+    (exchanged-swap t up inside (c .before .before .if1 .left) (c .before .if2 .left), exchanged-lower t up inside (c .smaller2 .ensures) (omega (arith, c .before .if2 .left)))
 
 pub exchange-spec : {M : Type 1} → statement M
 exchange-spec =
@@ -58,12 +58,12 @@ exchange-spec =
     slice-read-parent
     mul-parents
     slice-write-parents
-    lower-requires
+    smaller-requires
     same-length
     returns
     returns-2
     mul-parents-2
     slice-write-parents-2
-    lower-requires-2
+    smaller-requires-2
     same-length-2
     returns-3)

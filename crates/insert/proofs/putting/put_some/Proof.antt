@@ -27,28 +27,28 @@ same-length c = c .before .before .loop .inv .0 .same
 returns : tie.Need-returns Inv-loop μ-loop
 returns c = (c .before .before .loop .inv .0, c .before .before .loop .inv .2)
 
-mul-put : tie.Need-mul-put Inv-loop μ-loop
-mul-put c = search needs
+mul-put-edge : tie.Need-mul-put-edge Inv-loop μ-loop
+mul-put-edge c = search needs
 
-shared-slice-read-put : tie.Need-shared-slice-read-put Inv-loop μ-loop
-shared-slice-read-put c = search needs
+shared-slice-read-put-edge : tie.Need-shared-slice-read-put-edge Inv-loop μ-loop
+shared-slice-read-put-edge c = search needs
 
-add-put : tie.Need-add-put Inv-loop μ-loop
-add-put c = search needs
+add-put-edge : tie.Need-add-put-edge Inv-loop μ-loop
+add-put-edge c = search needs
 
-mul-put-2 : tie.Need-mul-put-2 Inv-loop μ-loop
-mul-put-2 c = search needs
+mul-put-edge-2 : tie.Need-mul-put-edge-2 Inv-loop μ-loop
+mul-put-edge-2 c = search needs
 
-shared-slice-read-put-2 : tie.Need-shared-slice-read-put-2 Inv-loop μ-loop
-shared-slice-read-put-2 c = search needs
+shared-slice-read-put-edge-2 : tie.Need-shared-slice-read-put-edge-2 Inv-loop μ-loop
+shared-slice-read-put-edge-2 c = search needs
 
-put-requires : tie.Need-put-requires Inv-loop μ-loop
-put-requires c κs =
+put-edge-requires : tie.Need-put-edge-requires Inv-loop μ-loop
+put-edge-requires c κs =
     let u = c .before .before .before .before .before .loop .inv .0 in
     (record { few = omega (arith, u .same, c .before .before .before .before .before .before .before .before .pre .0 .few); sound = u .sound }, put-ends u (c .before .before .before .before .loop-test .taken) .0, put-ends u (c .before .before .before .before .loop-test .taken) .1, put-ends u (c .before .before .before .before .loop-test .taken) .2)
 
 add-steps : tie.Need-add-steps Inv-loop μ-loop
-add-steps c = omega (arith, c .before .before .before .put .ensures .0 .quick, c .before .before .before .before .before .before .before .before .before .loop .inv .0 .same, c .before .before .before .before .before .before .before .if1 .left, c .before .before .before .before .before .before .before .before .before .before .before .before .pre .0 .few, c .before .before .before .before .before .before .before .before .before .before .before .before .pre .2)
+add-steps c = omega (arith, c .before .before .before .put-edge .ensures .0 .quick, c .before .before .before .before .before .before .before .before .before .loop .inv .0 .same, c .before .before .before .before .before .before .before .if1 .left, c .before .before .before .before .before .before .before .before .before .before .before .before .pre .0 .few, c .before .before .before .before .before .before .before .before .before .before .before .before .pre .2)
 
 add-i : tie.Need-add-i Inv-loop μ-loop
 add-i c = search needs
@@ -59,7 +59,7 @@ loop-less c = search needs
 loop-again : tie.Need-loop-again Inv-loop μ-loop
 loop-again c =
     let t = c .before .before .before .before .before .before .before .before .before .loop .inv in
-    let x = c .before .before .before .put .ensures in
+    let x = c .before .before .before .put-edge .ensures in
     (put-next (t .0) (c .before .before .before .before .before .before .before .before .loop-test .taken) (x .0), omega (arith, x .0 .quick, t .0 .same, c .before .before .before .before .before .before .before .if1 .left), x .1 .fallen _ (t .2))
 
 same-length-2 : tie.Need-same-length-2 Inv-loop μ-loop
@@ -78,12 +78,12 @@ put-some-spec =
     add-loop
     same-length
     returns
-    mul-put
-    shared-slice-read-put
-    add-put
-    mul-put-2
-    shared-slice-read-put-2
-    put-requires
+    mul-put-edge
+    shared-slice-read-put-edge
+    add-put-edge
+    mul-put-edge-2
+    shared-slice-read-put-edge-2
+    put-edge-requires
     add-steps
     add-i
     loop-less

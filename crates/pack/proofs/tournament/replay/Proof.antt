@@ -47,14 +47,14 @@ loop-holds c = replay-begin (c .before .before .before .before .before .before .
 sibling-requires : tie.Need-sibling-requires Inv-loop μ-loop
 sibling-requires c κs = search needs
 
-mul-lower : tie.Need-mul-lower Inv-loop μ-loop
-mul-lower c = search needs
+mul-lighter : tie.Need-mul-lighter Inv-loop μ-loop
+mul-lighter c = search needs
 
-slice-read-lower : tie.Need-slice-read-lower Inv-loop μ-loop
-slice-read-lower c = search needs
+slice-read-lighter : tie.Need-slice-read-lighter Inv-loop μ-loop
+slice-read-lighter c = search needs
 
-lower-requires : tie.Need-lower-requires Inv-loop μ-loop
-lower-requires c κs = search needs
+lighter-requires : tie.Need-lighter-requires Inv-loop μ-loop
+lighter-requires c κs = search needs
 
 mul-nodes-2 : tie.Need-mul-nodes-2 Inv-loop μ-loop
 mul-nodes-2 c = search needs
@@ -66,7 +66,7 @@ loop-less : tie.Need-loop-less Inv-loop μ-loop
 loop-less c = search needs
 
 loop-again : tie.Need-loop-again Inv-loop μ-loop
-loop-again c = replay-more (c .before .before .before .before .loop .inv) (c .before .before .before .loop-test .taken) _ (c .before .before .sibling .ensures) (c .lower .ensures)
+loop-again c = replay-more (c .before .before .before .before .loop .inv) (c .before .before .before .loop-test .taken) _ (c .before .before .sibling .ensures) (c .lighter .ensures)
 
 same-length : tie.Need-same-length Inv-loop μ-loop
 same-length c = search needs
@@ -92,9 +92,9 @@ replay-spec =
     slice-write-nodes
     loop-holds
     sibling-requires
-    mul-lower
-    slice-read-lower
-    lower-requires
+    mul-lighter
+    slice-read-lighter
+    lighter-requires
     mul-nodes-2
     slice-write-nodes-2
     loop-less

@@ -20,29 +20,29 @@ loop-holds c = start-begin (c .before .pre .0) (c .before .pre .2)
 sub-i : tie.Need-sub-i Inv-loop μ-loop
 sub-i c = search needs
 
-mul-lower : tie.Need-mul-lower Inv-loop μ-loop
-mul-lower c = search needs
+mul-lighter : tie.Need-mul-lighter Inv-loop μ-loop
+mul-lighter c = search needs
 
-mul-lower-2 : tie.Need-mul-lower-2 Inv-loop μ-loop
-mul-lower-2 c = search needs
+mul-lighter-2 : tie.Need-mul-lighter-2 Inv-loop μ-loop
+mul-lighter-2 c = search needs
 
-slice-read-lower : tie.Need-slice-read-lower Inv-loop μ-loop
-slice-read-lower c = search needs
+slice-read-lighter : tie.Need-slice-read-lighter Inv-loop μ-loop
+slice-read-lighter c = search needs
 
-mul-lower-3 : tie.Need-mul-lower-3 Inv-loop μ-loop
-mul-lower-3 c = search needs
+mul-lighter-3 : tie.Need-mul-lighter-3 Inv-loop μ-loop
+mul-lighter-3 c = search needs
 
-add-lower : tie.Need-add-lower Inv-loop μ-loop
-add-lower c = search needs
+add-lighter : tie.Need-add-lighter Inv-loop μ-loop
+add-lighter c = search needs
 
-mul-lower-4 : tie.Need-mul-lower-4 Inv-loop μ-loop
-mul-lower-4 c = search needs
+mul-lighter-4 : tie.Need-mul-lighter-4 Inv-loop μ-loop
+mul-lighter-4 c = search needs
 
-slice-read-lower-2 : tie.Need-slice-read-lower-2 Inv-loop μ-loop
-slice-read-lower-2 c = search needs
+slice-read-lighter-2 : tie.Need-slice-read-lighter-2 Inv-loop μ-loop
+slice-read-lighter-2 c = search needs
 
-lower-requires : tie.Need-lower-requires Inv-loop μ-loop
-lower-requires c κs = search needs
+lighter-requires : tie.Need-lighter-requires Inv-loop μ-loop
+lighter-requires c κs = search needs
 
 mul-nodes : tie.Need-mul-nodes Inv-loop μ-loop
 mul-nodes c = search needs
@@ -54,7 +54,7 @@ loop-less : tie.Need-loop-less Inv-loop μ-loop
 loop-less c = search needs
 
 loop-again : tie.Need-loop-again Inv-loop μ-loop
-loop-again c = start-node (c .before .before .before .before .before .loop .inv) (c .before .before .before .before .before .before .before .pre .1) (omega arith) (omega arith) (c .before .before .before .if1 .taken) (c .lower .ensures)
+loop-again c = start-node (c .before .before .before .before .before .loop .inv) (c .before .before .before .before .before .before .before .pre .1) (omega arith) (omega arith) (c .before .before .before .if1 .taken) (c .lighter .ensures)
 
 mul-nodes-2 : tie.Need-mul-nodes-2 Inv-loop μ-loop
 mul-nodes-2 c = omega (arith, start-high (c .before .before .before .before .args .blocks) (c .before .before .loop .inv), c .before .before .before .before .pre .1)
@@ -83,14 +83,14 @@ start-spec =
     mul-i
     loop-holds
     sub-i
-    mul-lower
-    mul-lower-2
-    slice-read-lower
-    mul-lower-3
-    add-lower
-    mul-lower-4
-    slice-read-lower-2
-    lower-requires
+    mul-lighter
+    mul-lighter-2
+    slice-read-lighter
+    mul-lighter-3
+    add-lighter
+    mul-lighter-4
+    slice-read-lighter-2
+    lighter-requires
     mul-nodes
     slice-write-nodes
     loop-less

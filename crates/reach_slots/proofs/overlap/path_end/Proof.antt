@@ -18,21 +18,21 @@ abbrev μ-loop : tie.MeasureT-loop
 μ-loop k v y ends ancestor₀ r₀ ancestor r = length ends - r
 
 -- the pointer of a vertex that is over leads into the table
-inside : (c : tie.After-at2 Inv-loop μ-loop) → c .at2 .result < length (c .before .before .before .before .before .before .before .before .args .ends .now)
+inside : (c : tie.After-read-at2 Inv-loop μ-loop) → c .read-at2 .result < length (c .before .before .before .before .before .before .before .before .args .ends .now)
 inside c =
     let (p, j, u) = c .before .before .before .before .before .before .before .before .pre in
     let st = c .before .before .before .before .loop .inv .3 p j u in
-    rw (u .entries) (stands-next st (c .before .before .before .at .ensures) (c .before .before .if2 .taken) (c .at2 .ensures) .inside)
+    rw (u .entries) (stands-next st (c .before .before .before .read-at .ensures) (c .before .before .if2 .taken) (c .read-at2 .ensures) .inside)
 
 -- a turn of the loop
-turn : (c : tie.After-at4 Inv-loop μ-loop) (p : List ℕ)
+turn : (c : tie.After-read-at4 Inv-loop μ-loop) (p : List ℕ)
     → Jumps p (c .before .before .before .before .before .before .before .before .before .before .before .before .args .ends .now) (c .before .before .before .before .before .before .before .before .before .before .before .before .args .ancestor .now) (c .before .before .before .before .before .before .before .before .before .before .before .before .args .k)
     → Under p (c .before .before .before .before .before .before .before .before .before .before .before .before .args .ends .now) (c .before .before .before .before .before .before .before .before .before .before .before .before .args .k) (c .before .before .before .before .before .before .before .before .before .before .before .before .args .v) (c .before .before .before .before .before .before .before .before .before .before .before .before .args .y)
-    → Stands p (c .before .before .before .before .before .before .before .before .before .before .before .before .args .ends .now) (set (c .before .before .before .before .before .before .before .before .loop .ancestor) (c .before .before .before .before .before .before .before .before .loop .r) (c .at4 .result)) (c .before .before .before .before .before .before .before .before .before .before .before .before .args .k) (c .before .before .before .before .before .before .before .before .before .before .before .before .args .v) (c .before .before .before .before .before .before .before .before .before .before .before .before .args .y) (c .at4 .result)
-    × (c .before .before .before .before .before .before .before .before .loop .r < c .at4 .result)
+    → Stands p (c .before .before .before .before .before .before .before .before .before .before .before .before .args .ends .now) (set (c .before .before .before .before .before .before .before .before .loop .ancestor) (c .before .before .before .before .before .before .before .before .loop .r) (c .read-at4 .result)) (c .before .before .before .before .before .before .before .before .before .before .before .before .args .k) (c .before .before .before .before .before .before .before .before .before .before .before .before .args .v) (c .before .before .before .before .before .before .before .before .before .before .before .before .args .y) (c .read-at4 .result)
+    × (c .before .before .before .before .before .before .before .before .loop .r < c .read-at4 .result)
 turn c p j u =
-    stands-halve (c .before .before .before .before .before .before .before .before .loop .inv .3 p j u) (c .before .before .before .before .before .before .before .at .ensures) (c .before .before .before .before .before .before .if2 .taken) (c .before .before .before .before .at2 .ensures)
-    (c .before .before .before .at3 .ensures) (c .before .before .if3 .left) (c .at4 .ensures)
+    stands-halve (c .before .before .before .before .before .before .before .before .loop .inv .3 p j u) (c .before .before .before .before .before .before .before .read-at .ensures) (c .before .before .before .before .before .before .if2 .taken) (c .before .before .before .before .read-at2 .ensures)
+    (c .before .before .before .read-at3 .ensures) (c .before .before .if3 .left) (c .read-at4 .ensures)
 
 returns : tie.Need-returns Inv-loop μ-loop
 returns c = λ p j u. (j, stays u (c .if1 .taken))
@@ -42,14 +42,14 @@ loop-holds c =
     let (p, j, u) = c .before .before .before .pre in
     (refl, u .entries ∙ sym (j .entries), rw (u .entries) (stands-first j u (c .if1 .left) .inside), λ p j u. stands-first j u (c .if1 .left))
 
-at-requires : tie.Need-at-requires Inv-loop μ-loop
-at-requires c κs = search needs
+read-at-requires : tie.Need-read-at-requires Inv-loop μ-loop
+read-at-requires c κs = search needs
 
-at-requires-2 : tie.Need-at-requires-2 Inv-loop μ-loop
-at-requires-2 c κs = search needs
+read-at-requires-2 : tie.Need-read-at-requires-2 Inv-loop μ-loop
+read-at-requires-2 c κs = search needs
 
-at-requires-3 : tie.Need-at-requires-3 Inv-loop μ-loop
-at-requires-3 c κs = inside c
+read-at-requires-3 : tie.Need-read-at-requires-3 Inv-loop μ-loop
+read-at-requires-3 c κs = inside c
 
 same-length : tie.Need-same-length Inv-loop μ-loop
 same-length c = search needs
@@ -57,10 +57,10 @@ same-length c = search needs
 returns-2 : tie.Need-returns-2 Inv-loop μ-loop
 returns-2 c = λ p j u.
     let st = c .before .before .before .before .before .before .loop .inv .3 p j u in
-    (st .jumps, stands-end (stands-next st (c .before .before .before .before .before .at .ensures) (c .before .before .before .before .if2 .taken) (c .before .before .at2 .ensures)) (c .before .at3 .ensures) (c .if3 .taken))
+    (st .jumps, stands-end (stands-next st (c .before .before .before .before .before .read-at .ensures) (c .before .before .before .before .if2 .taken) (c .before .before .read-at2 .ensures)) (c .before .read-at3 .ensures) (c .if3 .taken))
 
-at-requires-4 : tie.Need-at-requires-4 Inv-loop μ-loop
-at-requires-4 c κs = let h = inside (c .before .before .before) in omega arith
+read-at-requires-4 : tie.Need-read-at-requires-4 Inv-loop μ-loop
+read-at-requires-4 c κs = let h = inside (c .before .before .before) in omega arith
 
 cast-i : tie.Need-cast-i Inv-loop μ-loop
 cast-i c = search needs
@@ -88,7 +88,7 @@ same-length-2 : tie.Need-same-length-2 Inv-loop μ-loop
 same-length-2 c = search needs
 
 returns-3 : tie.Need-returns-3 Inv-loop μ-loop
-returns-3 c = λ p j u. let st = c .before .before .loop .inv .3 p j u in (st .jumps, stands-end st (c .before .at .ensures) (c .if2 .left))
+returns-3 c = λ p j u. let st = c .before .before .loop .inv .3 p j u in (st .jumps, stands-end st (c .before .read-at .ensures) (c .if2 .left))
 
 pub path-end-spec : {M : Type 1} → statement M
 path-end-spec =
@@ -98,12 +98,12 @@ path-end-spec =
     μ-loop
     returns
     loop-holds
-    at-requires
-    at-requires-2
-    at-requires-3
+    read-at-requires
+    read-at-requires-2
+    read-at-requires-3
     same-length
     returns-2
-    at-requires-4
+    read-at-requires-4
     cast-i
     mul-ancestor
     slice-write-ancestor

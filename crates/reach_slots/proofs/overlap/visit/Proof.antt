@@ -30,8 +30,8 @@ slot c d =
     let m = d .slotted .marked in
     let h = c .before .before .loop-test .taken in
     ⊎-elim
-    (λ a. slot-first l h m (d .turn) (a .0 .taken) (c .before .at .ensures) (a .1 .ensures) (a .2 .ensures) (a .3) (a .4) (a .5))
-    (λ a. slot-other l h m (d .turn) (a .0 .left) (c .before .at .ensures) (a .1) (a .2) (a .3))
+    (λ a. slot-first l h m (d .turn) (a .0 .taken) (c .before .read-at .ensures) (a .1 .ensures) (a .2 .ensures) (a .3) (a .4) (a .5))
+    (λ a. slot-other l h m (d .turn) (a .0 .left) (c .before .read-at .ensures) (a .1) (a .2) (a .3))
     (c .if1 .came)
 
 loop-holds : tie.Need-loop-holds Inv-loop μ-loop
@@ -40,32 +40,32 @@ loop-holds c = (search needs, refl, refl, refl, λ p es filed stops g e. countin
 cast-loop : tie.Need-cast-loop Inv-loop μ-loop
 cast-loop c = search needs
 
-at-requires : tie.Need-at-requires Inv-loop μ-loop
-at-requires c κs = search needs
+read-at-requires : tie.Need-read-at-requires Inv-loop μ-loop
+read-at-requires c κs = search needs
 
-at-requires-2 : tie.Need-at-requires-2 Inv-loop μ-loop
-at-requires-2 c κs =
+read-at-requires-2 : tie.Need-read-at-requires-2 Inv-loop μ-loop
+read-at-requires-2 c κs =
     let (p, es, filed, stops, g, e) = c .before .before .before .before .before .before .before .before .before .before .before .pre in
     let d = c .before .before .before .loop .inv .4 p es filed stops g e in
-    let h = slot-mark (g .layout) (c .before .before .loop-test .taken) (g .marked) (d .turn) (c .if1 .taken) (c .before .at .ensures) .0 in
+    let h = slot-mark (g .layout) (c .before .before .loop-test .taken) (g .marked) (d .turn) (c .if1 .taken) (c .before .read-at .ensures) .0 in
     rw (g .entries .0, ← (g .layout .entries)) h
 
 add-stop : tie.Need-add-stop Inv-loop μ-loop
 add-stop c =
     let (p, es, filed, stops, g, e) = c .before .before .before .before .before .before .before .before .before .before .before .before .pre in
     let d = c .before .before .before .before .loop .inv .4 p es filed stops g e in
-    let h = slot-mark (g .layout) (c .before .before .before .loop-test .taken) (g .marked) (d .turn) (c .before .if1 .taken) (c .before .before .at .ensures) .1 in
-    omega (arith, g .few, c .at2 .ensures)
+    let h = slot-mark (g .layout) (c .before .before .before .loop-test .taken) (g .marked) (d .turn) (c .before .if1 .taken) (c .before .before .read-at .ensures) .1 in
+    omega (arith, g .few, c .read-at2 .ensures)
 
-at-requires-3 : tie.Need-at-requires-3 Inv-loop μ-loop
-at-requires-3 c κs =
+read-at-requires-3 : tie.Need-read-at-requires-3 Inv-loop μ-loop
+read-at-requires-3 c κs =
     let (p, es, filed, stops, g, e) = c .before .before .before .before .before .before .before .before .before .before .before .before .pre in
     let d = c .before .before .before .before .loop .inv .4 p es filed stops g e in
-    let h = slot-mark (g .layout) (c .before .before .before .loop-test .taken) (g .marked) (d .turn) (c .before .if1 .taken) (c .before .before .at .ensures) .0 in
+    let h = slot-mark (g .layout) (c .before .before .before .loop-test .taken) (g .marked) (d .turn) (c .before .if1 .taken) (c .before .before .read-at .ensures) .0 in
     rw (g .entries .1, ← (g .layout .entries)) h
 
-at-requires-4 : tie.Need-at-requires-4 Inv-loop μ-loop
-at-requires-4 c κs =
+read-at-requires-4 : tie.Need-read-at-requires-4 Inv-loop μ-loop
+read-at-requires-4 c κs =
     let (p, es, filed, stops, g, e) = c .before .before .before .before .before .before .before .before .before .before .before .before .pre in
     let d = c .before .before .before .before .loop .inv .4 p es filed stops g e in
     slot-inside d (slot (c .before) d)
@@ -74,18 +74,18 @@ path-end-requires : tie.Need-path-end-requires Inv-loop μ-loop
 path-end-requires c κs =
     let (p, es, filed, stops, g, e) = c .before .before .before .before .before .before .before .before .before .before .before .before .before .before .pre in
     let d = c .before .before .before .before .before .before .loop .inv .4 p es filed stops g e in
-    (p, d .jumps, path-under d (slot (c .before .before .before) d) (c .before .at4 .ensures))
+    (p, d .jumps, path-under d (slot (c .before .before .before) d) (c .before .read-at4 .ensures))
 
-add-requires : tie.Need-add-requires Inv-loop μ-loop
-add-requires c κs =
+add-at-requires : tie.Need-add-at-requires Inv-loop μ-loop
+add-at-requires c κs =
     let (p, es, filed, stops, g, e) = c .before .before .before .before .before .before .before .before .before .before .before .before .before .before .before .before .before .before .pre in
     let d = c .before .before .before .before .before .before .before .before .before .before .loop .inv .4 p es filed stops g e in
     let s = slot (c .before .before .before .before .before .before .before) d in
-    let rv = c .before .before .before .before .before .at4 .ensures in
+    let rv = c .before .before .before .before .before .read-at4 .ensures in
     overlap-fits d s rv (c .before .before .before .path-end .ensures p (d .jumps) (path-under d s rv) .1) (c .before .before .before .before .before .before .before .before .before .loop-test .taken)
 
-put-requires : tie.Need-put-requires Inv-loop μ-loop
-put-requires c κs =
+write-at-requires : tie.Need-write-at-requires Inv-loop μ-loop
+write-at-requires c κs =
     let (p, es, filed, stops, g, e) = c .before .before .before .before .before .before .before .before .before .before .before .before .before .before .before .before .before .before .before .before .before .before .pre in
     let d = c .before .before .before .before .before .before .before .before .before .before .before .before .before .before .loop .inv .4 p es filed stops g e in
     slot-inside d (slot (c .before .before .before .before .before .before .before .before .before .before .before) d)
@@ -99,19 +99,19 @@ loop-less c = search needs
 loop-again : tie.Need-loop-again Inv-loop μ-loop
 loop-again c =
     let (k, a, b, o, inv) = c .before .before .before .before .before .before .before .before .before .before .before .before .before .before .before .before .before .loop .inv in
-    let rv = c .before .before .before .before .before .before .before .before .before .before .before .before .at4 .ensures in
+    let rv = c .before .before .before .before .before .before .before .before .before .before .before .before .read-at4 .ensures in
     let (p, es, filed, stops, g, e) = c .before .before .before .before .before .before .before .before .before .before .before .before .before .before .before .before .before .before .before .before .before .before .before .before .before .pre in
     let d = inv p es filed stops g e in
     let js = c .before .before .before .before .before .before .before .before .before .before .path-end .ensures p (d .jumps) (path-under d (slot (c .before .before .before .before .before .before .before .before .before .before .before .before .before .before) d) rv) .0 in (
       search needs,
       js .entries ∙ sym (d .jumps .entries) ∙ a,
-      ap length (c .before .before .put .ensures) ∙ simp length-set b,
-      ap length (c .before .before .before .before .before .before .add .ensures) ∙ simp length-set o,
+      ap length (c .before .before .write-at .ensures) ∙ simp length-set b,
+      ap length (c .before .before .before .before .before .before .add-at .ensures) ∙ simp length-set o,
       λ p es filed stops g e.
           let d = inv p es filed stops g e in
           let s = slot (c .before .before .before .before .before .before .before .before .before .before .before .before .before .before) d in
           let (js, f) = c .before .before .before .before .before .before .before .before .before .before .path-end .ensures p (d .jumps) (path-under d s rv) in
-          counting-step d s rv f js (c .before .before .before .before .before .before .add .ensures) (c .before .before .put .ensures),
+          counting-step d s rv f js (c .before .before .before .before .before .before .add-at .ensures) (c .before .before .write-at .ensures),
     )
 
 same-length : tie.Need-same-length Inv-loop μ-loop
@@ -134,14 +134,14 @@ visit-spec =
     μ-loop
     loop-holds
     cast-loop
-    at-requires
-    at-requires-2
+    read-at-requires
+    read-at-requires-2
     add-stop
-    at-requires-3
-    at-requires-4
+    read-at-requires-3
+    read-at-requires-4
     path-end-requires
-    add-requires
-    put-requires
+    add-at-requires
+    write-at-requires
     add-k
     loop-less
     loop-again

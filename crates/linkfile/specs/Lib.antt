@@ -1,0 +1,2 @@
+-- The round trips of link files.
+pub mod RoundTrip
