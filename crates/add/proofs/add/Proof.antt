@@ -42,9 +42,14 @@ is-rising-first-requires c κs = search needs
 
 grow-list-requires : tie.Need-grow-list-requires
 grow-list-requires c κs =
-    let (counted, r) = c .before .before .before .before .before .before .is-rising-first .ensures (c .before .before .before .before .before .if2 .taken) in
-    let l = counted-light (c .before .before .before .before .before .before .before .before .before .is-long .result) (c .before .before .before .before .before .before .before .before .before .before .before .before .read-tables .result .heavy) counted in
-    let o = c .before .before .before .before .before .before .before .before .before .before .before .before .read-tables .ensures .passed (c .before .before .before .before .before .before .before .before .before .before .if1 .left) in
+    let at-if2 = c .before .before .before .before .before in
+    let at-is-rising-first = at-if2 .before in
+    let at-is-long = at-is-rising-first .before .before .before in
+    let at-if1 = at-is-long .before in
+    let at-read-tables = at-if1 .before .before in
+    let (counted, r) = at-is-rising-first .is-rising-first .ensures (at-if2 .if2 .taken) in
+    let l = counted-light (at-is-long .is-long .result) (at-read-tables .read-tables .result .heavy) counted in
+    let o = at-read-tables .read-tables .ensures .passed (at-if1 .if1 .left) in
     let a = addable _ _ (rising-passes o l r) in
     (rising-takable a r, r .blank, a .work .jump)
 
@@ -69,18 +74,27 @@ same-length-10 c = search needs
 returns-2 : tie.Need-returns-2
 unfolding addOutcome
 returns-2 c =
-    let (counted, r) = c .before .before .before .before .before .before .before .before .before .before .before .before .before .before .before .before .before .before .is-rising-first .ensures (c .before .before .before .before .before .before .before .before .before .before .before .before .before .before .before .before .before .if2 .taken) in
-    let l = counted-light (c .before .before .before .before .before .before .before .before .before .before .before .before .before .before .before .before .before .before .before .before .before .is-long .result) (c .before .before .before .before .before .before .before .before .before .before .before .before .before .before .before .before .before .before .before .before .before .before .before .before .read-tables .result .heavy) counted in
-    let z = rising-passes (c .before .before .before .before .before .before .before .before .before .before .before .before .before .before .before .before .before .before .before .before .before .before .before .before .read-tables .ensures .passed (c .before .before .before .before .before .before .before .before .before .before .before .before .before .before .before .before .before .before .before .before .before .before .if1 .left)) l r in
+    let at-grow-list = c .before .before .before .before .before .before .before .before .before .before .before in
+    let at-if2 = at-grow-list .before .before .before .before .before .before in
+    let at-is-rising-first = at-if2 .before in
+    let at-is-long = at-is-rising-first .before .before .before in
+    let at-if1 = at-is-long .before in
+    let at-read-tables = at-if1 .before .before in
+    let (counted, r) = at-is-rising-first .is-rising-first .ensures (at-if2 .if2 .taken) in
+    let l = counted-light (at-is-long .is-long .result) (at-read-tables .read-tables .result .heavy) counted in
+    let z = rising-passes (at-read-tables .read-tables .ensures .passed (at-if1 .if1 .left)) l r in
     let a = addable _ _ z in
-    let (g, w, k, d) = c .before .before .before .before .before .before .before .before .before .before .before .grow-list .ensures in
+    let (g, w, k, d) = at-grow-list .grow-list .ensures in
     let x = rising-extends a r g k in
     rw (c .accepted .ensures) (ends-accepted _ _ _ _ (add-moved a x d refl) z (add-ends a refl (x, w)))
 
 read-list-requires : tie.Need-read-list-requires
 read-list-requires c κs =
-    λ t. let l = counted-light (c .before .before .before .before .before .is-long .result) (c .before .before .before .before .before .before .before .before .read-tables .result .heavy) t in
-    (l, omega (arith, c .before .before .before .before .before .before .before .before .read-tables .ensures .passed (c .before .before .before .before .before .before .if1 .left) .few l))
+    let at-is-long = c .before .before .before .before .before in
+    let at-if1 = at-is-long .before in
+    let at-read-tables = at-if1 .before .before in
+    λ t. let l = counted-light (at-is-long .is-long .result) (at-read-tables .read-tables .result .heavy) t in
+    (l, omega (arith, at-read-tables .read-tables .ensures .passed (at-if1 .if1 .left) .few l))
 
 same-length-11 : tie.Need-same-length-11
 same-length-11 c = search needs
@@ -99,13 +113,20 @@ same-length-15 c = search needs
 
 returns-3 : tie.Need-returns-3
 unfolding verdict
-returns-3 c = list-refused (c .before .before .before .before .before .before .before .before .before .before .before .before .read-tables .ensures .passed (c .before .before .before .before .before .before .before .before .before .before .if1 .left)) (c .before .before .before .read-list .ensures) (c .if3 .taken)
+returns-3 c =
+    let at-read-list = c .before .before .before in
+    let at-if1 = at-read-list .before .before .before .before .before .before .before in
+    let at-read-tables = at-if1 .before .before in
+    list-refused (at-read-tables .read-tables .ensures .passed (at-if1 .if1 .left)) (at-read-list .read-list .ensures) (c .if3 .taken)
 
 extend-requires : tie.Need-extend-requires
 extend-requires c κs =
-    let r : tie.After-read-list = c .before .before .before .before .before .before .before .before in
-    let o = c .before .before .before .before .before .before .before .before .before .before .before .before .before .before .before .before .before .read-tables .ensures .passed (c .before .before .before .before .before .before .before .before .before .before .before .before .before .before .before .if1 .left) in
-    let z = c .before .before .before .before .before .if3 .left in
+    let at-if3 = c .before .before .before .before .before in
+    let at-if1 = at-if3 .before .before .before .before .before .before .before .before .before .before in
+    let at-read-tables = at-if1 .before .before in
+    let r : tie.After-read-list = at-if3 .before .before .before in
+    let o = at-read-tables .read-tables .ensures .passed (at-if1 .if1 .left) in
+    let z = at-if3 .if3 .left in
     let a = addable _ _ (sym (list-decides o (r .read-list .ensures)) ∙ z) in
     (add-extendable a (r .read-list .kept .1 .0), add-weighable a, list-counted o (r .read-list .ensures) z)
 
@@ -130,11 +151,15 @@ same-length-20 c = search needs
 returns-4 : tie.Need-returns-4
 unfolding addOutcome
 returns-4 c =
-    let r : tie.After-read-list = c .before .before .before .before .before .before .before .before .before .before .before .before .before .before .before .before .before .before .before .before in
-    let o = c .before .before .before .before .before .before .before .before .before .before .before .before .before .before .before .before .before .before .before .before .before .before .before .before .before .before .before .before .before .read-tables .ensures .passed (c .before .before .before .before .before .before .before .before .before .before .before .before .before .before .before .before .before .before .before .before .before .before .before .before .before .before .before .if1 .left) in
-    let z = sym (list-decides o (r .read-list .ensures)) ∙ c .before .before .before .before .before .before .before .before .before .before .before .before .before .before .before .before .before .if3 .left in
+    let at-extend = c .before .before .before .before .before .before .before .before .before .before .before in
+    let at-if3 = at-extend .before .before .before .before .before .before in
+    let at-if1 = at-if3 .before .before .before .before .before .before .before .before .before .before in
+    let at-read-tables = at-if1 .before .before in
+    let r : tie.After-read-list = at-if3 .before .before .before in
+    let o = at-read-tables .read-tables .ensures .passed (at-if1 .if1 .left) in
+    let z = sym (list-decides o (r .read-list .ensures)) ∙ at-if3 .if3 .left in
     let a = addable _ _ z in
-    let (x, t, d) = c .before .before .before .before .before .before .before .before .before .before .before .extend .ensures in
+    let (x, t, d) = at-extend .extend .ensures in
     rw (c .accepted2 .ensures) (ends-accepted _ _ _ _ (add-moved a x d refl) z (add-ends a (r .read-list .kept .1 .0) (x, t)))
 
 pub add-spec : {M : Type 1} → statement M

@@ -14,7 +14,10 @@ same-length c = search needs
 
 returns : tie.Need-returns
 returns c =
-    counted-read (c .before .before .before .before .before .before .before .pre (c .before .before .before .before .if1 .taken) .0) (c .before .before .count-upper .ensures)
+    let at-count-upper = c .before .before in
+    let at-if1 = at-count-upper .before .before in
+    let at-pre = at-if1 .before .before .before in
+    counted-read (at-pre .pre (at-if1 .if1 .taken) .0) (at-count-upper .count-upper .ensures)
 
 list-fault-requires : tie.Need-list-fault-requires
 list-fault-requires c κs = search needs

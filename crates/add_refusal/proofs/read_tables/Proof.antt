@@ -42,29 +42,47 @@ bad-work-requires c κs = search needs
 returns-4 : tie.Need-returns-4
 unfolding addRefusal
 returns-4 c =
+    let at-bad-work = c .before in
+    let at-if3 = at-bad-work .before in
+    let at-if2 = at-if3 .before in
+    let at-if1 = at-if2 .before in
+    let at-bad-count = at-if1 .before in
     tables-refused _ _ _
-    (pass _ _ (sym (c .before .before .before .before .before .bad-count .ensures) ∙ c .before .before .before .before .if1 .left)
-    ∙ pass _ _ (right-length _ _ (c .before .before .before .if2 .left))
-    ∙ pass _ _ (even-list _ (c .before .before .if3 .left))
-    ∙ stop _ _ (work-length _ _ _ (sym (c .before .bad-work .ensures) ∙ c .if4 .taken)))
+    (pass _ _ (sym (at-bad-count .bad-count .ensures) ∙ at-if1 .if1 .left)
+    ∙ pass _ _ (right-length _ _ (at-if2 .if2 .left))
+    ∙ pass _ _ (even-list _ (at-if3 .if3 .left))
+    ∙ stop _ _ (work-length _ _ _ (sym (at-bad-work .bad-work .ensures) ∙ c .if4 .taken)))
 
 of-requires : tie.Need-of-requires
 of-requires c κs =
-    omega (arith, c .before .before .before .if2 .left, good-count _ (sym (c .before .before .before .before .before .bad-count .ensures) ∙ c .before .before .before .before .if1 .left) .1)
+    let at-if2 = c .before .before .before in
+    let at-if1 = at-if2 .before in
+    let at-bad-count = at-if1 .before in
+    omega (arith, at-if2 .if2 .left, good-count _ (sym (at-bad-count .bad-count .ensures) ∙ at-if1 .if1 .left) .1)
 
 is-damaged-requires : tie.Need-is-damaged-requires
 is-damaged-requires c κs =
-    good-count _ (sym (c .before .before .before .before .before .before .bad-count .ensures) ∙ c .before .before .before .before .before .if1 .left) .1
+    let at-if1 = c .before .before .before .before .before in
+    let at-bad-count = at-if1 .before in
+    good-count _ (sym (at-bad-count .bad-count .ensures) ∙ at-if1 .if1 .left) .1
 
 returns-5 : tie.Need-returns-5
 unfolding addRefusal
 returns-5 c =
+    let at-is-damaged = c .before in
+    let at-of = at-is-damaged .before in
+    let at-if4 = at-of .before in
+    let at-bad-work = at-if4 .before in
+    let at-if3 = at-bad-work .before in
+    let at-if2 = at-if3 .before in
+    let at-if1 = at-if2 .before in
+    let at-bad-count = at-if1 .before in
     tables-refused _ _ _
-    (pass _ _ (sym (c .before .before .before .before .before .before .before .before .bad-count .ensures) ∙ c .before .before .before .before .before .before .before .if1 .left)
-    ∙ pass _ _ (right-length _ _ (c .before .before .before .before .before .before .if2 .left))
-    ∙ pass _ _ (even-list _ (c .before .before .before .before .before .if3 .left))
-    ∙ pass _ _ (work-length _ _ _ (sym (c .before .before .before .before .bad-work .ensures) ∙ c .before .before .before .if4 .left))
-    ∙ stop _ _ (damage _ (c .before .before .of .ensures) (sym (c .before .is-damaged .ensures) ∙ c .if5 .taken)))
+    (pass _ _ (sym (at-bad-count .bad-count .ensures) ∙ at-if1 .if1 .left)
+    ∙ pass _ _ (right-length _ _ (at-if2 .if2 .left))
+    ∙ pass _ _ (even-list _ (at-if3 .if3 .left))
+    ∙ pass _ _ (work-length _ _ _ (sym (at-bad-work .bad-work .ensures) ∙ at-if4 .if4 .left))
+    ∙ stop _ _ (damage _ (at-of .of .ensures) (sym (at-is-damaged .is-damaged .ensures) ∙ c .if5 .taken)))
 
 add-total : tie.Need-add-total
 add-total c =
@@ -73,14 +91,23 @@ add-total c =
 returns-6 : tie.Need-returns-6
 unfolding addRefusal
 returns-6 c =
+    let at-if5 = c .before in
+    let at-is-damaged = at-if5 .before in
+    let at-of = at-is-damaged .before in
+    let at-if4 = at-of .before in
+    let at-bad-work = at-if4 .before in
+    let at-if3 = at-bad-work .before in
+    let at-if2 = at-if3 .before in
+    let at-if1 = at-if2 .before in
+    let at-bad-count = at-if1 .before in
     tables-right _ _
-    (work-length _ _ _ (sym (c .before .before .before .before .before .bad-work .ensures) ∙ c .before .before .before .before .if4 .left))
-    (pass _ _ (sym (c .before .before .before .before .before .before .before .before .before .bad-count .ensures) ∙ c .before .before .before .before .before .before .before .before .if1 .left)
-    ∙ pass _ _ (right-length _ _ (c .before .before .before .before .before .before .before .if2 .left))
-    ∙ pass _ _ (even-list _ (c .before .before .before .before .before .before .if3 .left))
-    ∙ pass _ _ (work-length _ _ _ (sym (c .before .before .before .before .before .bad-work .ensures) ∙ c .before .before .before .before .if4 .left))
-    ∙ pass _ _ (damage _ (c .before .before .before .of .ensures) (sym (c .before .before .is-damaged .ensures) ∙ c .before .if5 .left))
-    ∙ heavy-told _ _ (c .before .before .before .of .ensures))
+    (work-length _ _ _ (sym (at-bad-work .bad-work .ensures) ∙ at-if4 .if4 .left))
+    (pass _ _ (sym (at-bad-count .bad-count .ensures) ∙ at-if1 .if1 .left)
+    ∙ pass _ _ (right-length _ _ (at-if2 .if2 .left))
+    ∙ pass _ _ (even-list _ (at-if3 .if3 .left))
+    ∙ pass _ _ (work-length _ _ _ (sym (at-bad-work .bad-work .ensures) ∙ at-if4 .if4 .left))
+    ∙ pass _ _ (damage _ (at-of .of .ensures) (sym (at-is-damaged .is-damaged .ensures) ∙ at-if5 .if5 .left))
+    ∙ heavy-told _ _ (at-of .of .ensures))
     (light-few _ _)
 
 pub read-tables-spec : {M : Type 1} → statement M

@@ -9,10 +9,16 @@ lowest-common-requires c κs = search needs
 
 returns : tie.Need-returns
 unfolding verdict
-returns c = lists-not (c .before .before .before .before .pre .0) (c .before .lowest-common .ensures) (c .before .before .before .before .pre .1) (c .before .before .before .before .pre .2) _ (c .if1 .taken)
+returns c =
+    let at-lowest-common = c .before in
+    let at-pre = at-lowest-common .before .before .before in
+    lists-not (at-pre .pre .0) (at-lowest-common .lowest-common .ensures) (at-pre .pre .1) (at-pre .pre .2) _ (c .if1 .taken)
 
 write-path-requires : tie.Need-write-path-requires
-write-path-requires c κs = (c .before .before .before .before .before .pre .0, c .before .before .before .before .before .pre .3, c .before .before .lowest-common .ensures .inside)
+write-path-requires c κs =
+    let at-lowest-common = c .before .before in
+    let at-pre = at-lowest-common .before .before .before in
+    (at-pre .pre .0, at-pre .pre .3, at-lowest-common .lowest-common .ensures .inside)
 
 found-requires : tie.Need-found-requires
 found-requires c κs = search needs
@@ -22,7 +28,12 @@ same-length c = search needs
 
 returns-2 : tie.Need-returns-2
 unfolding verdict
-returns-2 c = lists (c .before .before .before .before .before .before .before .before .before .pre .0) (c .before .before .before .before .before .before .lowest-common .ensures) (c .before .before .before .before .before .before .before .before .before .pre .1) (c .before .before .before .before .before .before .before .before .before .pre .2) _ (c .before .before .before .before .before .if1 .left) (c .before .before .before .write-path .ensures .0) (c .before .before .before .write-path .ensures .1) (c .found .ensures)
+returns-2 c =
+    let at-write-path = c .before .before .before in
+    let at-if1 = at-write-path .before .before in
+    let at-lowest-common = at-if1 .before in
+    let at-pre = at-lowest-common .before .before .before in
+    lists (at-pre .pre .0) (at-lowest-common .lowest-common .ensures) (at-pre .pre .1) (at-pre .pre .2) _ (at-if1 .if1 .left) (at-write-path .write-path .ensures .0) (at-write-path .write-path .ensures .1) (c .found .ensures)
 
 pub list-common-spec : {M : Type 1} → statement M
 list-common-spec =

@@ -29,13 +29,28 @@ mul-a : tie.Need-mul-a Inv-loop μ-loop
 mul-a c = search needs
 
 shared-slice-read-a : tie.Need-shared-slice-read-a Inv-loop μ-loop
-shared-slice-read-a c = walks-low (c .before .before .before .before .loop .inv .0) (c .before .before .before .before .loop .inv .1) (c .before .before .before .loop-test .taken) (c .before .before .smaller .ensures) (c .before .larger .ensures)
+shared-slice-read-a c =
+    let at-larger = c .before in
+    let at-smaller = at-larger .before in
+    let at-loop-test = at-smaller .before in
+    let at-loop = at-loop-test .before in
+    walks-low (at-loop .loop .inv .0) (at-loop .loop .inv .1) (at-loop-test .loop-test .taken) (at-smaller .smaller .ensures) (at-larger .larger .ensures)
 
 loop-less : tie.Need-loop-less Inv-loop μ-loop
-loop-less c = walks-less (c .before .before .before .before .loop .inv .0) (c .before .before .before .before .loop .inv .1) (c .before .before .before .loop-test .taken) (c .before .before .smaller .ensures) (c .before .larger .ensures)
+loop-less c =
+    let at-larger = c .before in
+    let at-smaller = at-larger .before in
+    let at-loop-test = at-smaller .before in
+    let at-loop = at-loop-test .before in
+    walks-less (at-loop .loop .inv .0) (at-loop .loop .inv .1) (at-loop-test .loop-test .taken) (at-smaller .smaller .ensures) (at-larger .larger .ensures)
 
 loop-again : tie.Need-loop-again Inv-loop μ-loop
-loop-again c = (c .before .before .before .before .loop .inv .0, walks-step (c .before .before .before .before .loop .inv .0) (c .before .before .before .before .loop .inv .1) (c .before .before .before .loop-test .taken) (c .before .before .smaller .ensures) (c .before .larger .ensures))
+loop-again c =
+    let at-larger = c .before in
+    let at-smaller = at-larger .before in
+    let at-loop-test = at-smaller .before in
+    let at-loop = at-loop-test .before in
+    (at-loop .loop .inv .0, walks-step (at-loop .loop .inv .0) (at-loop .loop .inv .1) (at-loop-test .loop-test .taken) (at-smaller .smaller .ensures) (at-larger .larger .ensures))
 
 returns : tie.Need-returns Inv-loop μ-loop
 returns c = walks-end (c .before .loop .inv .0) (c .before .loop .inv .1) (c .loop-test .left)

@@ -40,10 +40,16 @@ shared-slice-read-x : tie.Need-shared-slice-read-x Inv-loop μ-loop
 shared-slice-read-x c = c .before .before .loop .inv .2 .inside (c .before .loop-test .taken)
 
 loop-less : tie.Need-loop-less Inv-loop μ-loop
-loop-less c = write-less (c .before .before .loop .inv .0) (c .before .before .loop .inv .1) (c .before .before .loop .inv .2) (c .before .loop-test .taken)
+loop-less c =
+    let at-loop-test = c .before in
+    let at-loop = at-loop-test .before in
+    write-less (at-loop .loop .inv .0) (at-loop .loop .inv .1) (at-loop .loop .inv .2) (at-loop-test .loop-test .taken)
 
 loop-again : tie.Need-loop-again Inv-loop μ-loop
-loop-again c = (c .before .before .loop .inv .0, c .before .before .loop .inv .1, write-on (c .before .before .loop .inv .0) (c .before .before .loop .inv .1) (c .before .before .loop .inv .2) (c .before .loop-test .taken))
+loop-again c =
+    let at-loop-test = c .before in
+    let at-loop = at-loop-test .before in
+    (at-loop .loop .inv .0, at-loop .loop .inv .1, write-on (at-loop .loop .inv .0) (at-loop .loop .inv .1) (at-loop .loop .inv .2) (at-loop-test .loop-test .taken))
 
 same-length : tie.Need-same-length Inv-loop μ-loop
 same-length c = write-long (c .before .loop .inv .0) (c .before .loop .inv .1) (c .before .loop .inv .2)

@@ -21,7 +21,10 @@ count-buckets-requires : tie.Need-count-buckets-requires
 count-buckets-requires c κs = count-ready (c .before .before .before .before .before .before .before .before .before .before .before .before .before .pre) (c .before .wide .ensures) refl
 
 settle-requires : tie.Need-settle-requires
-settle-requires c κs = let k = c .before .before .before .before .before .before .before .before .before .count-buckets .kept in sweep-ready (c .before .before .before .before .before .before .before .before .before .before .before .before .before .before .before .before .before .before .before .before .before .before .before .pre) (c .before .before .before .before .before .before .before .before .before .count-buckets .ensures) (k .1 .1 .1 .1 .1 .1 .0) (k .1 .1 .1 .1 .1 .1 .1 .0)
+settle-requires c κs =
+    let at-count-buckets = c .before .before .before .before .before .before .before .before .before in
+    let at-pre = at-count-buckets .before .before .before .before .before .before .before .before .before .before .before .before .before .before in
+    let k = at-count-buckets .count-buckets .kept in sweep-ready (at-pre .pre) (at-count-buckets .count-buckets .ensures) (k .1 .1 .1 .1 .1 .1 .0) (k .1 .1 .1 .1 .1 .1 .1 .0)
 
 same-length : tie.Need-same-length
 same-length c = search needs
@@ -33,7 +36,11 @@ same-length-3 : tie.Need-same-length-3
 same-length-3 c = search needs
 
 returns : tie.Need-returns
-returns c = let k = c .before .before .before .before .before .before .before .before .before .before .before .before .before .before .count-buckets .kept in let m = c .before .before .before .before .settle .kept in all-written (c .before .before .before .before .before .before .before .before .before .before .before .before .before .before .before .before .before .before .before .before .before .before .before .before .before .before .before .before .pre) (c .before .before .before .before .before .before .before .before .before .before .before .before .before .before .count-buckets .ensures) (k .1 .1 .1 .1 .1 .0) (m .1 .1 .1 .0 ∙ k .1 .1 .1 .1 .1 .1 .0) (c .before .before .before .before .settle .ensures)
+returns c =
+    let at-settle = c .before .before .before .before in
+    let at-count-buckets = at-settle .before .before .before .before .before .before .before .before .before .before in
+    let at-pre = at-count-buckets .before .before .before .before .before .before .before .before .before .before .before .before .before .before in
+    let k = at-count-buckets .count-buckets .kept in let m = at-settle .settle .kept in all-written (at-pre .pre) (at-count-buckets .count-buckets .ensures) (k .1 .1 .1 .1 .1 .0) (m .1 .1 .1 .0 ∙ k .1 .1 .1 .1 .1 .1 .0) (at-settle .settle .ensures)
 
 pub write-block-counts-spec : {M : Type 1} → statement M
 write-block-counts-spec =

@@ -10,7 +10,10 @@ grow-net-requires : tie.Need-grow-net-requires
 grow-net-requires c κs = c .before .before .before .before .before .before .before .before .before .before .before .before .before .pre .growable
 
 same-net-requires : tie.Need-same-net-requires
-same-net-requires c κs = tables-fit (c .before .before .before .before .before .before .before .before .before .before .before .before .before .before .before .before .before .before .before .before .before .before .before .before .before .before .pre) (c .before .before .before .before .before .before .before .before .before .before .before .before .grow-net .ensures)
+same-net-requires c κs =
+    let at-grow-net = c .before .before .before .before .before .before .before .before .before .before .before .before in
+    let at-pre = at-grow-net .before .before .before .before .before .before .before .before .before .before .before .before .before .before in
+    tables-fit (at-pre .pre) (at-grow-net .grow-net .ensures)
 
 same-length : tie.Need-same-length
 same-length c = search needs
@@ -28,7 +31,11 @@ same-length-5 : tie.Need-same-length-5
 same-length-5 c = search needs
 
 returns : tie.Need-returns
-returns c = compared-same (c .before .before .before .before .before .before .before .before .before .before .before .before .before .before .before .before .before .before .before .before .before .before .before .before .before .before .before .before .pre) (c .before .before .before .before .before .before .before .before .before .before .before .before .before .before .grow-net .ensures) (c .before .same-net .ensures) (c .if1 .taken)
+returns c =
+    let at-same-net = c .before in
+    let at-grow-net = at-same-net .before .before .before .before .before .before .before .before .before .before .before .before .before in
+    let at-pre = at-grow-net .before .before .before .before .before .before .before .before .before .before .before .before .before .before in
+    compared-same (at-pre .pre) (at-grow-net .grow-net .ensures) (at-same-net .same-net .ensures) (c .if1 .taken)
 
 clear-requires : tie.Need-clear-requires
 clear-requires c κs = (omega arith, refl)
@@ -50,8 +57,13 @@ same-length-10 c = search needs
 
 returns-2 : tie.Need-returns-2
 returns-2 c =
-    let k = c .before .before .before .before .before .before .before .before .before .before .before .before .before .before .before .before .before .before .before .before .before .before .before .before .grow-net .kept in
-    compared-other (c .before .before .before .before .before .before .before .before .before .before .before .before .before .before .before .before .before .before .before .before .before .before .before .before .before .before .before .before .before .before .before .before .before .before .before .before .before .before .pre) (c .before .before .before .before .before .before .before .before .before .before .before .before .before .before .before .before .before .before .before .before .before .before .before .before .grow-net .ensures) (c .before .before .before .before .before .before .before .before .before .before .before .same-net .ensures) (c .before .before .before .before .before .before .before .before .before .before .if1 .left) (c .before .before .before .before .before .before .clear .ensures ∙ same-room _ _ _ _ _ _ (k .1 .1 .1 .0) (k .1 .1 .1 .1 .0) (k .1 .1 .1 .1 .1 .0))
+    let at-clear = c .before .before .before .before .before .before in
+    let at-if1 = at-clear .before .before .before .before in
+    let at-same-net = at-if1 .before in
+    let at-grow-net = at-same-net .before .before .before .before .before .before .before .before .before .before .before .before .before in
+    let at-pre = at-grow-net .before .before .before .before .before .before .before .before .before .before .before .before .before .before in
+    let k = at-grow-net .grow-net .kept in
+    compared-other (at-pre .pre) (at-grow-net .grow-net .ensures) (at-same-net .same-net .ensures) (at-if1 .if1 .left) (at-clear .clear .ensures ∙ same-room _ _ _ _ _ _ (k .1 .1 .1 .0) (k .1 .1 .1 .1 .0) (k .1 .1 .1 .1 .1 .0))
 
 pub compare-spec : {M : Type 1} → statement M
 compare-spec =

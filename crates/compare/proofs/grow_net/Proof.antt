@@ -16,11 +16,17 @@ fill-requires-2 c κs = search needs
 
 file-list-requires : tie.Need-file-list-requires
 file-list-requires c κs =
-    let g = c .before .before .before .before .before .before .before .before .before .before .before .before .before .before .before .before .pre in
-    (ap (λ (n : ℕ). firstFault n (edgesOf (c .before .before .before .before .before .before .before .before .before .before .before .before .before .before .before .before .args .edges .now))) (g .ends) ∙ g .faultless, (omega (arith, g .lower), omega (arith, g .lower, g .vertices, g .few)))
+    let at-pre = c .before .before .before .before .before .before .before .before .before .before .before .before .before .before .before .before in
+    let g = at-pre .pre in
+    (ap (λ (n : ℕ). firstFault n (edgesOf (at-pre .args .edges .now))) (g .ends) ∙ g .faultless, (omega (arith, g .lower), omega (arith, g .lower, g .vertices, g .few)))
 
 grow-kept-requires : tie.Need-grow-kept-requires
-grow-kept-requires c κs = net-growable (c .before .before .before .before .before .before .before .before .before .before .before .before .before .before .before .before .before .before .before .before .before .before .before .before .before .before .pre) (c .before .before .before .before .before .before .before .before .before .before .before .before .before .before .before .before .before .before .fill .ensures) (c .before .before .before .before .before .before .before .before .before .before .before .before .before .before .fill2 .ensures) (c .before .before .before .before .before .before .before .before .before .file-list .ensures) (c .before .before .before .before .before .before .before .before .before .file-list .kept .1 .1 .0)
+grow-kept-requires c κs =
+    let at-file-list = c .before .before .before .before .before .before .before .before .before in
+    let at-fill2 = at-file-list .before .before .before .before .before in
+    let at-fill = at-fill2 .before .before .before .before in
+    let at-pre = at-fill .before .before .before .before .before .before .before .before in
+    net-growable (at-pre .pre) (at-fill .fill .ensures) (at-fill2 .fill2 .ensures) (at-file-list .file-list .ensures) (at-file-list .file-list .kept .1 .1 .0)
 
 same-length : tie.Need-same-length
 same-length c = search needs
@@ -39,8 +45,13 @@ same-length-5 c = search needs
 
 returns : tie.Need-returns
 returns c =
-    let g = c .before .before .before .before .before .before .before .before .grow-kept .ensures in
-    net-grown (c .before .before .before .before .before .before .before .before .before .before .before .before .before .before .before .before .before .before .before .before .before .before .before .before .before .before .before .before .before .before .before .before .before .before .before .pre) (c .before .before .before .before .before .before .before .before .before .before .before .before .before .before .before .before .before .before .before .before .before .before .before .before .before .before .before .fill .ensures) (c .before .before .before .before .before .before .before .before .before .before .before .before .before .before .before .before .before .before .before .before .before .before .before .fill2 .ensures) (c .before .before .before .before .before .before .before .before .before .before .before .before .before .before .before .before .before .before .file-list .ensures) (c .before .before .before .before .before .before .before .before .before .before .before .before .before .before .before .before .before .before .file-list .kept .1 .1 .0) (g .grown) (g .kept)
+    let at-grow-kept = c .before .before .before .before .before .before .before .before in
+    let at-file-list = at-grow-kept .before .before .before .before .before .before .before .before .before .before in
+    let at-fill2 = at-file-list .before .before .before .before .before in
+    let at-fill = at-fill2 .before .before .before .before in
+    let at-pre = at-fill .before .before .before .before .before .before .before .before in
+    let g = at-grow-kept .grow-kept .ensures in
+    net-grown (at-pre .pre) (at-fill .fill .ensures) (at-fill2 .fill2 .ensures) (at-file-list .file-list .ensures) (at-file-list .file-list .kept .1 .1 .0) (g .grown) (g .kept)
 
 pub grow-net-spec : {M : Type 1} → statement M
 grow-net-spec =

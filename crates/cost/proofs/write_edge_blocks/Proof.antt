@@ -41,7 +41,12 @@ mul-edge-blocks : tie.Need-mul-edge-blocks Inv-loop μ-loop
 mul-edge-blocks c = search needs
 
 shared-slice-read-edge-blocks : tie.Need-shared-slice-read-edge-blocks Inv-loop μ-loop
-shared-slice-read-edge-blocks c = omega (arith, c .before .wide .ensures, c .before .before .end-of .ensures, fill-lower (c .before .before .before .before .before .before .loop .inv .1) (c .before .before .before .before .before .loop-test .taken))
+shared-slice-read-edge-blocks c =
+    let at-wide = c .before in
+    let at-end-of = at-wide .before in
+    let at-loop-test = at-end-of .before .before .before in
+    let at-loop = at-loop-test .before in
+    omega (arith, at-wide .wide .ensures, at-end-of .end-of .ensures, fill-lower (at-loop .loop .inv .1) (at-loop-test .loop-test .taken))
 
 mul-edge-blocks-2 : tie.Need-mul-edge-blocks-2 Inv-loop μ-loop
 mul-edge-blocks-2 c = search needs
@@ -59,10 +64,15 @@ loop-less : tie.Need-loop-less Inv-loop μ-loop
 loop-less c = simp length-set (omega arith)
 
 loop-again : tie.Need-loop-again Inv-loop μ-loop
-loop-again c = (
-  simp length-set (c .before .before .before .before .before .before .loop .inv .0),
-  fill-step (c .before .before .before .before .before .before .loop .inv .1) (c .before .before .before .before .before .loop-test .taken) (ap (λ (at : ℕ). getD (c .before .before .before .before .before .before .before .before .before .before .args .block .now) at 0) (c .before .wide .ensures ∙ c .before .before .end-of .ensures)) refl,
-)
+loop-again c =
+    let at-wide = c .before in
+    let at-end-of = at-wide .before in
+    let at-loop-test = at-end-of .before .before .before in
+    let at-loop = at-loop-test .before in
+    let at-args = at-loop .before .before .before .before in (
+      simp length-set (at-loop .loop .inv .0),
+      fill-step (at-loop .loop .inv .1) (at-loop-test .loop-test .taken) (ap (λ (at : ℕ). getD (at-args .args .block .now) at 0) (at-wide .wide .ensures ∙ at-end-of .end-of .ensures)) refl,
+    )
 
 same-length : tie.Need-same-length Inv-loop μ-loop
 same-length c = search needs

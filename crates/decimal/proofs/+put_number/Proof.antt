@@ -111,7 +111,9 @@ put-number-returns-2 : (t : ℕ) → put-number-lts.Need-returns-2 (
   put-number-below t,
   put-number.Post,
 ) (put-number-at t) put-number.Post
-put-number-returns-2 t c = put-last ((c .before .before .before .before .before .before .before .before .before .if1) .left) ((c .before .before .before .before .before .before .before .put-number) .ensures) ((c .before .before .before .digit2) .ensures) ((c .before .before .put-byte2) .ensures)
+put-number-returns-2 t c =
+    put-last ((c .before .before .before .before .before .before .before .before .before .if1) .left) ((c .before .before .before .before .before .before .before .put-number) .ensures)
+    ((c .before .before .before .digit2) .ensures) ((c .before .before .put-byte2) .ensures)
 
 pub +put-number-spec : {M : Type 1} → statement M
 +put-number-spec = close μ-put-number λ t. put-number-lts.spec (

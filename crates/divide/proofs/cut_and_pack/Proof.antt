@@ -8,10 +8,12 @@ group-requires : tie.Need-group-requires
 group-requires c κs = search needs
 
 assign-requires : tie.Need-assign-requires
-assign-requires c κs = (
-  tops-topped (c .before .before .before .before .before .before .before .before .before .before .before .before .before .before .before .before .before .before .before .before .pre .0) (c .before .before .before .before .before .before .before .before .before .before .group .ensures),
-  tops-packable (c .before .before .before .before .before .before .before .before .before .before .before .before .before .before .before .before .before .before .before .before .pre .0) (c .before .before .before .before .before .before .before .before .before .before .group .ensures) (c .before .before .before .before .before .before .before .before .before .before .group .kept .1 .1 .1 .1 .1 .0 ∙ c .before .before .before .before .before .before .before .before .before .before .before .before .before .before .before .before .before .before .before .before .pre .1 .block) (c .before .before .before .before .before .before .before .before .before .before .before .before .before .before .before .before .before .before .before .before .pre .1 .some) (c .before .before .before .before .before .before .before .before .before .before .before .before .before .before .before .before .before .before .before .before .pre .1 .few),
-)
+assign-requires c κs =
+    let at-group = c .before .before .before .before .before .before .before .before .before .before in
+    let at-pre = at-group .before .before .before .before .before .before .before .before .before .before in (
+      tops-topped (at-pre .pre .0) (at-group .group .ensures),
+      tops-packable (at-pre .pre .0) (at-group .group .ensures) (at-group .group .kept .1 .1 .1 .1 .1 .0 ∙ at-pre .pre .1 .block) (at-pre .pre .1 .some) (at-pre .pre .1 .few),
+    )
 
 same-length : tie.Need-same-length
 same-length c = search needs
@@ -26,7 +28,11 @@ same-length-4 : tie.Need-same-length-4
 same-length-4 c = search needs
 
 returns : tie.Need-returns
-returns c = all-divided (c .before .before .before .before .before .before .before .before .before .before .before .before .before .before .before .before .before .before .before .before .before .before .before .before .before .pre .0) (c .before .before .before .before .before .before .before .before .before .before .before .before .before .before .before .group .ensures) (c .before .before .before .before .assign .ensures) (c .before .before .before .before .assign .kept .1 .1 .1 .0)
+returns c =
+    let at-assign = c .before .before .before .before in
+    let at-group = at-assign .before .before .before .before .before .before .before .before .before .before .before in
+    let at-pre = at-group .before .before .before .before .before .before .before .before .before .before in
+    all-divided (at-pre .pre .0) (at-group .group .ensures) (at-assign .assign .ensures) (at-assign .assign .kept .1 .1 .1 .0)
 
 pub cut-and-pack-spec : {M : Type 1} → statement M
 cut-and-pack-spec =

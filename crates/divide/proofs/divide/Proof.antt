@@ -25,7 +25,10 @@ unfolding verdict
 returns c = divide-refused _ _ _ _ (c .before .divide-refusal .ensures) (c .if1 .taken)
 
 cut-and-pack-requires : tie.Need-cut-and-pack-requires
-cut-and-pack-requires c κs = (divide-known _ _ _ _ _ (sym (c .before .before .before .before .before .divide-refusal .ensures) ∙ c .before .before .before .before .if1 .left) .net, divide-known _ _ _ _ _ (sym (c .before .before .before .before .before .divide-refusal .ensures) ∙ c .before .before .before .before .if1 .left) .tables)
+cut-and-pack-requires c κs =
+    let at-if1 = c .before .before .before .before in
+    let at-divide-refusal = at-if1 .before in
+    (divide-known _ _ _ _ _ (sym (at-divide-refusal .divide-refusal .ensures) ∙ at-if1 .if1 .left) .net, divide-known _ _ _ _ _ (sym (at-divide-refusal .divide-refusal .ensures) ∙ at-if1 .if1 .left) .tables)
 
 same-length-5 : tie.Need-same-length-5
 same-length-5 c = search needs
@@ -42,7 +45,10 @@ same-length-8 c = search needs
 returns-2 : tie.Need-returns-2
 unfolding verdict
 returns-2 c =
-    divide-accepted _ _ _ _ (c .before .before .before .before .before .before .before .before .before .before .before .before .before .before .divide-refusal .ensures) (c .before .before .before .before .before .before .before .before .before .before .before .before .before .if1 .left) (divide-known _ _ _ _ _ (sym (c .before .before .before .before .before .before .before .before .before .before .before .before .before .before .divide-refusal .ensures) ∙ c .before .before .before .before .before .before .before .before .before .before .before .before .before .if1 .left) .blocks) (c .before .before .before .before .before .before .before .before .cut-and-pack .ensures)
+    let at-cut-and-pack = c .before .before .before .before .before .before .before .before in
+    let at-if1 = at-cut-and-pack .before .before .before .before .before in
+    let at-divide-refusal = at-if1 .before in
+    divide-accepted _ _ _ _ (at-divide-refusal .divide-refusal .ensures) (at-if1 .if1 .left) (divide-known _ _ _ _ _ (sym (at-divide-refusal .divide-refusal .ensures) ∙ at-if1 .if1 .left) .blocks) (at-cut-and-pack .cut-and-pack .ensures)
 
 pub divide-spec : {M : Type 1} → statement M
 divide-spec =

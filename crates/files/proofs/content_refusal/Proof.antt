@@ -26,7 +26,12 @@ first-of-requires c κs = search needs
 
 returns-2 : tie.Need-returns-2
 unfolding contentRefusal
-returns-2 c = (c .first-of .ensures) ∙ ap₂ (λ (limits fault : ℕ). first (limits ∷ fault ∷ [])) (c .before .before .limit-refusal .ensures) (c .before .list-fault .ensures) ∙ sym (pass _ _ (sym (c .before .before .before .before .bad-order .ensures) ∙ (c .before .before .before .if1 .left)))
+returns-2 c =
+    let at-list-fault = c .before in
+    let at-limit-refusal = at-list-fault .before in
+    let at-if1 = at-limit-refusal .before in
+    let at-bad-order = at-if1 .before in
+    (c .first-of .ensures) ∙ ap₂ (λ (limits fault : ℕ). first (limits ∷ fault ∷ [])) (at-limit-refusal .limit-refusal .ensures) (at-list-fault .list-fault .ensures) ∙ sym (pass _ _ (sym (at-bad-order .bad-order .ensures) ∙ (at-if1 .if1 .left)))
 
 pub content-refusal-spec : {M : Type 1} → statement M
 content-refusal-spec =

@@ -21,10 +21,18 @@ slice-relend-prefix-take-files-2 : tie.Need-slice-relend-prefix-take-files-2
 slice-relend-prefix-take-files-2 c = edge-room _ _ (sym (c .before .before .size-refusal .ensures) ∙ (c .before .if1 .left)) (c .before .before .before .before .before .before .before .before .pre .1)
 
 slice-aggregate-take-files-2 : tie.Need-slice-aggregate-take-files-2
-slice-aggregate-take-files-2 c = sym (length-take-le _ _ (edge-room _ _ (sym (c .before .before .before .size-refusal .ensures) ∙ (c .before .before .if1 .left)) (c .before .before .before .before .before .before .before .before .before .pre .1)))
+slice-aggregate-take-files-2 c =
+    let at-if1 = c .before .before in
+    let at-size-refusal = at-if1 .before in
+    let at-pre = at-size-refusal .before .before .before .before .before .before in
+    sym (length-take-le _ _ (edge-room _ _ (sym (at-size-refusal .size-refusal .ensures) ∙ (at-if1 .if1 .left)) (at-pre .pre .1)))
 
 take-files-requires : tie.Need-take-files-requires
-take-files-requires c κs = sized _ _ _ (sym (c .before .before .before .size-refusal .ensures) ∙ (c .before .before .if1 .left)) (c .before .before .before .before .before .before .before .before .before .pre .0) (c .before .before .before .before .before .before .before .before .before .pre .1)
+take-files-requires c κs =
+    let at-if1 = c .before .before in
+    let at-size-refusal = at-if1 .before in
+    let at-pre = at-size-refusal .before .before .before .before .before .before in
+    sized _ _ _ (sym (at-size-refusal .size-refusal .ensures) ∙ (at-if1 .if1 .left)) (at-pre .pre .0) (at-pre .pre .1)
 
 same-length : tie.Need-same-length
 same-length c = search needs
@@ -33,7 +41,15 @@ same-length-2 : tie.Need-same-length-2
 same-length-2 c = search needs
 
 returns-2 : tie.Need-returns-2
-returns-2 c = loaded _ _ _ (sym (c .before .before .before .before .before .before .before .before .size-refusal .ensures) ∙ (c .before .before .before .before .before .before .before .if1 .left)) ((c .before .before .before .before .take-files .kept .1 .1 .1 .0) ∙ length-take-le _ _ (order-room _ _ (sym (c .before .before .before .before .before .before .before .before .size-refusal .ensures) ∙ (c .before .before .before .before .before .before .before .if1 .left)) (c .before .before .before .before .before .before .before .before .before .before .before .before .before .before .pre .0))) ((c .before .before .before .before .take-files .kept .1 .1 .1 .1 .0) ∙ length-take-le _ _ (edge-room _ _ (sym (c .before .before .before .before .before .before .before .before .size-refusal .ensures) ∙ (c .before .before .before .before .before .before .before .if1 .left)) (c .before .before .before .before .before .before .before .before .before .before .before .before .before .before .pre .1))) (c .before .before .before .before .take-files .ensures)
+returns-2 c =
+    let at-take-files = c .before .before .before .before in
+    let at-if1 = at-take-files .before .before .before in
+    let at-size-refusal = at-if1 .before in
+    let at-pre = at-size-refusal .before .before .before .before .before .before in
+    loaded _ _ _ (sym (at-size-refusal .size-refusal .ensures) ∙ (at-if1 .if1 .left))
+    ((at-take-files .take-files .kept .1 .1 .1 .0) ∙ length-take-le _ _ (order-room _ _ (sym (at-size-refusal .size-refusal .ensures) ∙ (at-if1 .if1 .left)) (at-pre .pre .0)))
+    ((at-take-files .take-files .kept .1 .1 .1 .1 .0) ∙ length-take-le _ _ (edge-room _ _ (sym (at-size-refusal .size-refusal .ensures) ∙ (at-if1 .if1 .left)) (at-pre .pre .1)))
+    (at-take-files .take-files .ensures)
 
 pub load-spec : {M : Type 1} → statement M
 load-spec =

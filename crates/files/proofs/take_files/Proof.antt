@@ -18,7 +18,10 @@ word-at-requires-2 : tie.Need-word-at-requires-2
 word-at-requires-2 c κs = omega (arith, sizes _ (c .before .before .before .before .before .before .before .before .before .before .before .before .before .before .before .before .pre .passed) .want)
 
 content-refusal-requires : tie.Need-content-refusal-requires
-content-refusal-requires c κs = omega (arith, sizes _ (c .before .before .before .before .before .before .before .before .before .before .before .before .before .before .before .before .before .pre .passed) .vertices, (c .before .before .before .before .before .before .before .before .before .before .before .before .before .before .before .before .before .pre .vertices), (c .before .before .before .before .before .before .before .before .before .before .take-words .kept .1 .0))
+content-refusal-requires c κs =
+    let at-take-words = c .before .before .before .before .before .before .before .before .before .before in
+    let at-pre = at-take-words .before .before .before .before .before .before .before in
+    omega (arith, sizes _ (at-pre .pre .passed) .vertices, (at-pre .pre .vertices), (at-take-words .take-words .kept .1 .0))
 
 same-length : tie.Need-same-length
 same-length c = search needs
@@ -28,7 +31,12 @@ same-length-2 c = search needs
 
 returns : tie.Need-returns
 unfolding order edgeList limit blocks
-returns c = decided _ (c .before .before .before .before .before .before .before .before .before .before .before .take-words .ensures) (c .before .before .before .before .before .before .before .take-words2 .ensures) (c .before .before .word-at .ensures) (c .before .word-at2 .ensures) (c .content-refusal .ensures)
+returns c =
+    let at-word-at2 = c .before in
+    let at-word-at = at-word-at2 .before in
+    let at-take-words2 = at-word-at .before .before .before .before .before in
+    let at-take-words = at-take-words2 .before .before .before .before in
+    decided _ (at-take-words .take-words .ensures) (at-take-words2 .take-words2 .ensures) (at-word-at .word-at .ensures) (at-word-at2 .word-at2 .ensures) (c .content-refusal .ensures)
 
 pub take-files-spec : {M : Type 1} → statement M
 take-files-spec =

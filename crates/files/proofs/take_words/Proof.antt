@@ -35,7 +35,10 @@ loop-less : tie.Need-loop-less Inv-loop μ-loop
 loop-less c = omega (arith, (c .before .before .loop .inv .1 .long), (c .before .loop-test .taken))
 
 loop-again : tie.Need-loop-again Inv-loop μ-loop
-loop-again c = (omega (arith, (c .before .before .loop .inv .1 .long), (c .before .loop-test .taken)), taken-turn (c .before .before .loop .inv .1) (c .before .loop-test .taken) (c .word-at .ensures))
+loop-again c =
+    let at-loop-test = c .before in
+    let at-loop = at-loop-test .before in
+    (omega (arith, (at-loop .loop .inv .1 .long), (at-loop-test .loop-test .taken)), taken-turn (at-loop .loop .inv .1) (at-loop-test .loop-test .taken) (c .word-at .ensures))
 
 same-length : tie.Need-same-length Inv-loop μ-loop
 same-length c = (c .before .loop .inv .1 .long) ∙ sym (c .before .before .before .before .pre)

@@ -30,10 +30,15 @@ fill-requires c κs = search needs
 
 -- the number of vertices
 abbrev count : tie.After-fill → ℕ
-count c = vertices (indexTables (c .before .before .before .before .before .before .before .before .before .before .args .starts .now) (c .before .before .before .before .before .before .before .before .before .before .args .neighbours .now))
+count c =
+    let at-args = c .before .before .before .before .before .before .before .before .before .before in
+    vertices (indexTables (at-args .args .starts .now) (at-args .args .neighbours .now))
 
 -- what came in, where it is not refused
-accepted : (c : tie.After-fill) → Accepted (indexTables (c .before .before .before .before .before .before .before .before .before .before .args .starts .now) (c .before .before .before .before .before .before .before .before .before .before .args .neighbours .now)) (c .before .before .before .before .before .before .before .before .before .before .args .old .now) (c .before .before .before .before .before .before .before .before .before .before .args .added .now)
+accepted : (c : tie.After-fill) → Accepted (indexTables (c .before .before .before .before .before .before .before .before .before .before .args .starts .now)
+    (c .before .before .before .before .before .before .before .before .before .before .args .neighbours .now))
+    (c .before .before .before .before .before .before .before .before .before .before .args .old .now)
+    (c .before .before .before .before .before .before .before .before .before .before .args .added .now)
 accepted c = index-accepted _ _ _ (sym (c .before .before .before .index-refusal .ensures) ∙ c .before .before .if1 .left)
 
 zeros : (c : tie.After-fill) → c .fill .last .0 ≡ replicate (suc (count c)) 0
@@ -66,12 +71,15 @@ same-length-4 c = search needs
 returns-2 : tie.Need-returns-2
 unfolding verdict indexOutcome
 returns-2 c =
-    let f : tie.After-fill = c .before .before .before .before .before .before .before .before .before in
+    let at-sort-arcs = c .before .before .before .before in
+    let at-if1 = at-sort-arcs .before .before .before .before .before .before .before in
+    let at-index-refusal = at-if1 .before in
+    let f : tie.After-fill = at-sort-arcs .before .before .before .before .before in
     let a = accepted f in
     let e = lent-length (count f) (zeros f) in
-    let b = put-back (count f) (zeros f) (c .before .before .before .before .sort-arcs .last .1 .1 .0) in
-    ends-accepted _ _ _ _ refl (sym (c .before .before .before .before .before .before .before .before .before .before .before .before .index-refusal .ensures) ∙ c .before .before .before .before .before .before .before .before .before .before .before .if1 .left)
-    (rw b (sorted-index (a .lists .proper) (c .before .before .before .before .sort-arcs .kept .1 .1 .1 .0 ∙ a .lists .room) (rw e at (c .before .before .before .before .sort-arcs .ensures))))
+    let b = put-back (count f) (zeros f) (at-sort-arcs .sort-arcs .last .1 .1 .0) in
+    ends-accepted _ _ _ _ refl (sym (at-index-refusal .index-refusal .ensures) ∙ at-if1 .if1 .left)
+    (rw b (sorted-index (a .lists .proper) (at-sort-arcs .sort-arcs .kept .1 .1 .1 .0 ∙ a .lists .room) (rw e at (at-sort-arcs .sort-arcs .ensures))))
 
 pub index-spec : {M : Type 1} → statement M
 index-spec =

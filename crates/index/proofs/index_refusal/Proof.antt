@@ -39,10 +39,14 @@ returns-3 c =
 returns-4 : tie.Need-returns-4
 unfolding indexRefusal vertices
 returns-4 c =
+    let at-if3 = c .before in
+    let at-if2 = at-if3 .before in
+    let at-bad-count = at-if2 .before in
+    let at-if1 = at-bad-count .before in
     sym
-    (pass _ _ (ne-eqb _ _ (c .before .before .before .before .if1 .left))
-    ∙ pass _ _ (sym (c .before .before .before .bad-count .ensures) ∙ c .before .before .if2 .left)
-    ∙ pass _ _ (even-list _ (c .before .if3 .left))
+    (pass _ _ (ne-eqb _ _ (at-if1 .if1 .left))
+    ∙ pass _ _ (sym (at-bad-count .bad-count .ensures) ∙ at-if2 .if2 .left)
+    ∙ pass _ _ (even-list _ (at-if3 .if3 .left))
     ∙ stop _ _ (odd-list _ (c .if4 .taken)))
 
 add-edges : tie.Need-add-edges
@@ -54,12 +58,18 @@ mul-if5 c = search needs
 returns-5 : tie.Need-returns-5
 unfolding indexRefusal vertices
 returns-5 c =
+    let at-if4 = c .before in
+    let at-if3 = at-if4 .before in
+    let at-if2 = at-if3 .before in
+    let at-bad-count = at-if2 .before in
+    let at-if1 = at-bad-count .before in
+    let at-args = at-if1 .before .before .before .before .before in
     sym
-    (pass _ _ (ne-eqb _ _ (c .before .before .before .before .before .if1 .left))
-    ∙ pass _ _ (sym (c .before .before .before .before .bad-count .ensures) ∙ c .before .before .before .if2 .left)
-    ∙ pass _ _ (even-list _ (c .before .before .if3 .left))
-    ∙ pass _ _ (even-list _ (c .before .if4 .left))
-    ∙ stop _ _ (wrong-length _ _ (λ e. c .if5 .taken (omega (arith, e, both-length (c .before .before .before .before .before .before .before .before .before .before .args .old .now) (c .before .before .before .before .before .before .before .before .before .before .args .added .now))))))
+    (pass _ _ (ne-eqb _ _ (at-if1 .if1 .left))
+    ∙ pass _ _ (sym (at-bad-count .bad-count .ensures) ∙ at-if2 .if2 .left)
+    ∙ pass _ _ (even-list _ (at-if3 .if3 .left))
+    ∙ pass _ _ (even-list _ (at-if4 .if4 .left))
+    ∙ stop _ _ (wrong-length _ _ (λ e. c .if5 .taken (omega (arith, e, both-length (at-args .args .old .now) (at-args .args .added .now))))))
 
 list-fault-requires : tie.Need-list-fault-requires
 list-fault-requires c κs = search needs
@@ -67,16 +77,24 @@ list-fault-requires c κs = search needs
 returns-6 : tie.Need-returns-6
 unfolding indexRefusal vertices
 returns-6 c =
-    let first-of = fault-first _ _ _ (λ z. c .if6 .taken (c .before .list-fault .ensures ∙ z)) in
+    let at-list-fault = c .before in
+    let at-if5 = at-list-fault .before in
+    let at-if4 = at-if5 .before in
+    let at-if3 = at-if4 .before in
+    let at-if2 = at-if3 .before in
+    let at-bad-count = at-if2 .before in
+    let at-if1 = at-bad-count .before in
+    let at-args = at-if1 .before .before .before .before .before in
+    let first-of = fault-first _ _ _ (λ z. c .if6 .taken (at-list-fault .list-fault .ensures ∙ z)) in
     sym
-    (pass _ _ (ne-eqb _ _ (c .before .before .before .before .before .before .before .if1 .left))
-    ∙ pass _ _ (sym (c .before .before .before .before .before .before .bad-count .ensures) ∙ c .before .before .before .before .before .if2 .left)
-    ∙ pass _ _ (even-list _ (c .before .before .before .before .if3 .left))
-    ∙ pass _ _ (even-list _ (c .before .before .before .if4 .left))
-    ∙ pass _ _ (right-length _ _ (omega (arith, c .before .before .if5 .left, both-length (c .before .before .before .before .before .before .before .before .before .before .before .before .args .old .now) (c .before .before .before .before .before .before .before .before .before .before .before .before .args .added .now))))
-    ∙ first-stop _ _ (λ z. c .if6 .taken (c .before .list-fault .ensures ∙ sym (first-of) ∙ z))
+    (pass _ _ (ne-eqb _ _ (at-if1 .if1 .left))
+    ∙ pass _ _ (sym (at-bad-count .bad-count .ensures) ∙ at-if2 .if2 .left)
+    ∙ pass _ _ (even-list _ (at-if3 .if3 .left))
+    ∙ pass _ _ (even-list _ (at-if4 .if4 .left))
+    ∙ pass _ _ (right-length _ _ (omega (arith, at-if5 .if5 .left, both-length (at-args .args .old .now) (at-args .args .added .now))))
+    ∙ first-stop _ _ (λ z. c .if6 .taken (at-list-fault .list-fault .ensures ∙ sym (first-of) ∙ z))
     ∙ first-of
-    ∙ sym (c .before .list-fault .ensures))
+    ∙ sym (at-list-fault .list-fault .ensures))
 
 list-fault-requires-2 : tie.Need-list-fault-requires-2
 list-fault-requires-2 c κs = search needs
@@ -84,38 +102,70 @@ list-fault-requires-2 c κs = search needs
 returns-7 : tie.Need-returns-7
 unfolding indexRefusal vertices
 returns-7 c =
+    let at-list-fault2 = c .before in
+    let at-if6 = at-list-fault2 .before in
+    let at-list-fault = at-if6 .before in
+    let at-if5 = at-list-fault .before in
+    let at-if4 = at-if5 .before in
+    let at-if3 = at-if4 .before in
+    let at-if2 = at-if3 .before in
+    let at-bad-count = at-if2 .before in
+    let at-if1 = at-bad-count .before in
+    let at-args = at-if1 .before .before .before .before .before in
     sym
-    (pass _ _ (ne-eqb _ _ (c .before .before .before .before .before .before .before .before .before .if1 .left))
-    ∙ pass _ _ (sym (c .before .before .before .before .before .before .before .before .bad-count .ensures) ∙ c .before .before .before .before .before .before .before .if2 .left)
-    ∙ pass _ _ (even-list _ (c .before .before .before .before .before .before .if3 .left))
-    ∙ pass _ _ (even-list _ (c .before .before .before .before .before .if4 .left))
-    ∙ pass _ _ (right-length _ _ (omega (arith, c .before .before .before .before .if5 .left, both-length (c .before .before .before .before .before .before .before .before .before .before .before .before .before .before .args .old .now) (c .before .before .before .before .before .before .before .before .before .before .before .before .before .before .args .added .now))))
-    ∙ first-stop _ _ (λ z. c .if7 .taken (c .before .list-fault2 .ensures ∙ sym (fault-second _ (edges (c .before .before .before .before .before .before .before .before .before .before .before .before .before .before .args .old .now)) (edges (c .before .before .before .before .before .before .before .before .before .before .before .before .before .before .args .added .now)) (sym (c .before .before .before .list-fault .ensures) ∙ c .before .before .if6 .left)) ∙ z))
-    ∙ fault-second _ (edges (c .before .before .before .before .before .before .before .before .before .before .before .before .before .before .args .old .now)) (edges (c .before .before .before .before .before .before .before .before .before .before .before .before .before .before .args .added .now)) (sym (c .before .before .before .list-fault .ensures) ∙ c .before .before .if6 .left)
-    ∙ sym (c .before .list-fault2 .ensures))
+    (pass _ _ (ne-eqb _ _ (at-if1 .if1 .left))
+    ∙ pass _ _ (sym (at-bad-count .bad-count .ensures) ∙ at-if2 .if2 .left)
+    ∙ pass _ _ (even-list _ (at-if3 .if3 .left))
+    ∙ pass _ _ (even-list _ (at-if4 .if4 .left))
+    ∙ pass _ _ (right-length _ _ (omega (arith, at-if5 .if5 .left, both-length (at-args .args .old .now) (at-args .args .added .now))))
+    ∙ first-stop _ _ (λ z. c .if7 .taken (at-list-fault2 .list-fault2 .ensures ∙ sym (fault-second _ (edges (at-args .args .old .now)) (edges (at-args .args .added .now)) (sym (at-list-fault .list-fault .ensures) ∙ at-if6 .if6 .left)) ∙ z))
+    ∙ fault-second _ (edges (at-args .args .old .now)) (edges (at-args .args .added .now)) (sym (at-list-fault .list-fault .ensures) ∙ at-if6 .if6 .left)
+    ∙ sym (at-list-fault2 .list-fault2 .ensures))
 
 returns-8 : tie.Need-returns-8
 unfolding indexRefusal vertices
 returns-8 c =
+    let at-if7 = c .before in
+    let at-list-fault2 = at-if7 .before in
+    let at-if6 = at-list-fault2 .before in
+    let at-list-fault = at-if6 .before in
+    let at-if5 = at-list-fault .before in
+    let at-if4 = at-if5 .before in
+    let at-if3 = at-if4 .before in
+    let at-if2 = at-if3 .before in
+    let at-bad-count = at-if2 .before in
+    let at-if1 = at-bad-count .before in
+    let at-args = at-if1 .before .before .before .before .before in
     sym
-    (pass _ _ (ne-eqb _ _ (c .before .before .before .before .before .before .before .before .before .before .if1 .left))
-    ∙ pass _ _ (sym (c .before .before .before .before .before .before .before .before .before .bad-count .ensures) ∙ c .before .before .before .before .before .before .before .before .if2 .left)
-    ∙ pass _ _ (even-list _ (c .before .before .before .before .before .before .before .if3 .left))
-    ∙ pass _ _ (even-list _ (c .before .before .before .before .before .before .if4 .left))
-    ∙ pass _ _ (right-length _ _ (omega (arith, c .before .before .before .before .before .if5 .left, both-length (c .before .before .before .before .before .before .before .before .before .before .before .before .before .before .before .args .old .now) (c .before .before .before .before .before .before .before .before .before .before .before .before .before .before .before .args .added .now))))
-    ∙ first-pass _ _ (fault-second _ (edges (c .before .before .before .before .before .before .before .before .before .before .before .before .before .before .before .args .old .now)) (edges (c .before .before .before .before .before .before .before .before .before .before .before .before .before .before .before .args .added .now)) (sym (c .before .before .before .before .list-fault .ensures) ∙ c .before .before .before .if6 .left) ∙ sym (c .before .before .list-fault2 .ensures) ∙ c .before .if7 .left)
+    (pass _ _ (ne-eqb _ _ (at-if1 .if1 .left))
+    ∙ pass _ _ (sym (at-bad-count .bad-count .ensures) ∙ at-if2 .if2 .left)
+    ∙ pass _ _ (even-list _ (at-if3 .if3 .left))
+    ∙ pass _ _ (even-list _ (at-if4 .if4 .left))
+    ∙ pass _ _ (right-length _ _ (omega (arith, at-if5 .if5 .left, both-length (at-args .args .old .now) (at-args .args .added .now))))
+    ∙ first-pass _ _ (fault-second _ (edges (at-args .args .old .now)) (edges (at-args .args .added .now)) (sym (at-list-fault .list-fault .ensures) ∙ at-if6 .if6 .left) ∙ sym (at-list-fault2 .list-fault2 .ensures) ∙ at-if7 .if7 .left)
     ∙ stop _ _ (too-many _ _ (c .if8 .taken)))
 
 returns-9 : tie.Need-returns-9
 unfolding indexRefusal vertices
 returns-9 c =
+    let at-if7 = c .before in
+    let at-list-fault2 = at-if7 .before in
+    let at-if6 = at-list-fault2 .before in
+    let at-list-fault = at-if6 .before in
+    let at-if5 = at-list-fault .before in
+    let at-if4 = at-if5 .before in
+    let at-if3 = at-if4 .before in
+    let at-if2 = at-if3 .before in
+    let at-bad-count = at-if2 .before in
+    let at-if1 = at-bad-count .before in
+    let at-args = at-if1 .before .before .before .before .before in
     sym
-    (pass _ _ (ne-eqb _ _ (c .before .before .before .before .before .before .before .before .before .before .if1 .left))
-    ∙ pass _ _ (sym (c .before .before .before .before .before .before .before .before .before .bad-count .ensures) ∙ c .before .before .before .before .before .before .before .before .if2 .left)
-    ∙ pass _ _ (even-list _ (c .before .before .before .before .before .before .before .if3 .left))
-    ∙ pass _ _ (even-list _ (c .before .before .before .before .before .before .if4 .left))
-    ∙ pass _ _ (right-length _ _ (omega (arith, c .before .before .before .before .before .if5 .left, both-length (c .before .before .before .before .before .before .before .before .before .before .before .before .before .before .before .args .old .now) (c .before .before .before .before .before .before .before .before .before .before .before .before .before .before .before .args .added .now))))
-    ∙ first-pass _ _ (fault-second _ (edges (c .before .before .before .before .before .before .before .before .before .before .before .before .before .before .before .args .old .now)) (edges (c .before .before .before .before .before .before .before .before .before .before .before .before .before .before .before .args .added .now)) (sym (c .before .before .before .before .list-fault .ensures) ∙ c .before .before .before .if6 .left) ∙ sym (c .before .before .list-fault2 .ensures) ∙ c .before .if7 .left)
+    (pass _ _ (ne-eqb _ _ (at-if1 .if1 .left))
+    ∙ pass _ _ (sym (at-bad-count .bad-count .ensures) ∙ at-if2 .if2 .left)
+    ∙ pass _ _ (even-list _ (at-if3 .if3 .left))
+    ∙ pass _ _ (even-list _ (at-if4 .if4 .left))
+    ∙ pass _ _ (right-length _ _ (omega (arith, at-if5 .if5 .left, both-length (at-args .args .old .now) (at-args .args .added .now))))
+    ∙ first-pass _ _ (fault-second _ (edges (at-args .args .old .now)) (edges (at-args .args .added .now)) (sym (at-list-fault .list-fault .ensures) ∙ at-if6 .if6 .left) ∙ sym (at-list-fault2 .list-fault2 .ensures) ∙ at-if7 .if7 .left)
     ∙ pass _ _ (not-many _ _ (c .if8 .left))
     ∙ first-end)
 

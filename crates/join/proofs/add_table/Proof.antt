@@ -31,7 +31,10 @@ slice-read-table : tie.Need-slice-read-table Inv-loop μ-loop
 slice-read-table c = omega (arith, c .before .before .before .loop .inv .long)
 
 add-table : tie.Need-add-table Inv-loop μ-loop
-add-table c = omega (arith, c .before .before .before .loop .inv .left (c .before .before .before .loop .i) (le-refl _), sum-entry (c .before .before .before .before .args .table .now) (c .before .before .before .loop .i), sum-entry (c .before .before .before .before .args .other .now) (c .before .before .before .loop .i), c .before .before .before .before .pre .1)
+add-table c =
+    let at-loop = c .before .before .before in
+    let at-args = at-loop .before in
+    omega (arith, at-loop .loop .inv .left (at-loop .loop .i) (le-refl _), sum-entry (at-args .args .table .now) (at-loop .loop .i), sum-entry (at-args .args .other .now) (at-loop .loop .i), at-args .pre .1)
 
 slice-write-table : tie.Need-slice-write-table Inv-loop μ-loop
 slice-write-table c = omega (arith, c .before .before .before .loop .inv .long)

@@ -40,13 +40,18 @@ add-table-requires c κs =
 
 file-links-requires : tie.Need-file-links-requires
 file-links-requires c κs =
-    let a = joinable _ _ (sym (c .before .before .before .before .before .before .before .before .join-refusal .ensures) ∙ c .before .before .before .before .before .before .before .if1 .left) in
+    let at-if1 = c .before .before .before .before .before .before .before in
+    let at-join-refusal = at-if1 .before in
+    let a = joinable _ _ (sym (at-join-refusal .join-refusal .ensures) ∙ at-if1 .if1 .left) in
     (a .work .ends, (a .same, (a .net .few, (true-sound (a .net .sound), (true-sound (a .second .sound), a .work .lower)))))
 
 regrow-requires : tie.Need-regrow-requires
 regrow-requires c κs =
-    let a = joinable _ _ (sym (c .before .before .before .before .before .before .before .before .before .before .before .before .before .before .before .before .before .join-refusal .ensures) ∙ c .before .before .before .before .before .before .before .before .before .before .before .before .before .before .before .before .if1 .left) in
-    filed-growable (c .before .before .before .before .before .before .before .before .file-links .ensures) (a .net .few) refl (a .work .jump)
+    let at-file-links = c .before .before .before .before .before .before .before .before in
+    let at-if1 = at-file-links .before .before .before .before .before .before .before .before in
+    let at-join-refusal = at-if1 .before in
+    let a = joinable _ _ (sym (at-join-refusal .join-refusal .ensures) ∙ at-if1 .if1 .left) in
+    filed-growable (at-file-links .file-links .ensures) (a .net .few) refl (a .work .jump)
 
 accepted-requires : tie.Need-accepted-requires
 accepted-requires c κs = search needs
@@ -69,12 +74,16 @@ same-length-10 c = search needs
 returns-2 : tie.Need-returns-2
 unfolding verdict joinOutcome
 returns-2 c =
-    let z = sym (c .before .before .before .before .before .before .before .before .before .before .before .before .before .before .before .before .before .before .before .before .before .before .before .before .before .before .before .join-refusal .ensures) ∙ c .before .before .before .before .before .before .before .before .before .before .before .before .before .before .before .before .before .before .before .before .before .before .before .before .before .before .if1 .left in
+    let at-regrow = c .before .before .before .before .before .before .before .before .before in
+    let at-add-table = at-regrow .before .before .before .before .before .before .before .before .before .before .before .before .before .before .before in
+    let at-if1 = at-add-table .before .before in
+    let at-join-refusal = at-if1 .before in
+    let z = sym (at-join-refusal .join-refusal .ensures) ∙ at-if1 .if1 .left in
     let a = joinable _ _ z in
-    let f : tie.After-file-links = c .before .before .before .before .before .before .before .before .before .before .before .before .before .before .before .before .before .before in
-    let (g, d) = c .before .before .before .before .before .before .before .before .before .regrow .ensures in
+    let f : tie.After-file-links = at-regrow .before .before .before .before .before .before .before .before .before in
+    let (g, d) = at-regrow .regrow .ensures in
     rw (c .accepted .ensures) (ends-accepted _ _ _ _ (join-moved a (f .file-links .ensures) g d refl) z
-    (join-ends a (f .file-links .ensures) g (c .before .before .before .before .before .before .before .before .before .before .before .before .before .before .before .before .before .before .before .before .before .before .before .before .add-table .ensures) (f .file-links .kept .1 .1 .0) (f .file-links .kept .1 .1 .1 .0)))
+    (join-ends a (f .file-links .ensures) g (at-add-table .add-table .ensures) (f .file-links .kept .1 .1 .0) (f .file-links .kept .1 .1 .1 .0)))
 
 pub join-spec : {M : Type 1} → statement M
 join-spec =

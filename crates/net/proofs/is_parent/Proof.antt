@@ -4,7 +4,6 @@ use Prim.Native.Nat.{_-_}
 use Rattle.net.proofs.is_parent.Statement.{statement}
 use Rattle.net.proofs.is_parent.Tie as tie
 
--- src/lib.rt:67:1
 returns : tie.Need-returns
 unfolding soundParent
 returns c = refl

@@ -15,40 +15,35 @@ Inv-loop weights sum₀ i₀ sum i =
 abbrev μ-loop : tie.MeasureT-loop
 μ-loop weights sum₀ i₀ sum i = length weights - i
 
--- src/lib.rt:94:5
 loop-holds : tie.Need-loop-holds Inv-loop μ-loop
 loop-holds c = search needs
 
--- src/lib.rt:95:21
 mul-amount : tie.Need-mul-amount Inv-loop μ-loop
 mul-amount c = search needs
 
--- src/lib.rt:95:21
 shared-slice-read-amount : tie.Need-shared-slice-read-amount Inv-loop μ-loop
 shared-slice-read-amount c = search needs
 
--- src/lib.rt:95:16
 amount-requires : tie.Need-amount-requires Inv-loop μ-loop
 amount-requires c κs = search needs
 
--- src/lib.rt:95:9
 add-sum : tie.Need-add-sum Inv-loop μ-loop
 add-sum c = omega (arith, c .before .shared-slice-known2 .given (c .before .before .before .loop .i), c .amount .ensures)
 
--- src/lib.rt:96:9
 add-i : tie.Need-add-i Inv-loop μ-loop
 add-i c = search needs
 
--- src/lib.rt:94:5
 loop-less : tie.Need-loop-less Inv-loop μ-loop
 loop-less c = search needs
 
--- src/lib.rt:94:5
 loop-again : tie.Need-loop-again Inv-loop μ-loop
 loop-again c =
-    omega (arith, c .before .shared-slice-known2 .given (c .before .before .before .loop .i), c .amount .ensures, sum-drop (c .before .before .before .before .before .args .weights .now) (c .before .before .before .loop .i) (c .before .before .loop-test .taken))
+    let at-shared-slice-known2 = c .before in
+    let at-loop-test = at-shared-slice-known2 .before in
+    let at-loop = at-loop-test .before in
+    let at-args = at-loop .before .before in
+    omega (arith, at-shared-slice-known2 .shared-slice-known2 .given (at-loop .loop .i), c .amount .ensures, sum-drop (at-args .args .weights .now) (at-loop .loop .i) (at-loop-test .loop-test .taken))
 
--- src/lib.rt:88:1
 returns : tie.Need-returns Inv-loop μ-loop
 returns c = omega (arith, sum-end (c .before .before .before .args .weights .now) (c .before .loop .i) (c .loop-test .left))
 

@@ -27,39 +27,66 @@ wide-requires c κs = search needs
 
 returns : tie.Need-returns Inv-loop μ-loop
 returns c =
+    let at-wide = c .before in
+    let at-loop-test = at-wide .before .before in
+    let at-loop = at-loop-test .before in
     sym
-    (read-large (c .before .before .before .before .loop .inv) (c .before .before .before .loop-test .taken) (c .before .wide .ensures) (c .if1 .taken))
+    (read-large (at-loop .loop .inv) (at-loop-test .loop-test .taken) (at-wide .wide .ensures) (c .if1 .taken))
 
 slice-aggregate-contains : tie.Need-slice-aggregate-contains Inv-loop μ-loop
 slice-aggregate-contains c = sym (c .before .before .before .before .before .loop .inv .size)
 
 contains-requires : tie.Need-contains-requires Inv-loop μ-loop
 contains-requires c κs =
-    read-room (c .before .before .before .before .before .loop .inv) (c .before .before .before .before .loop-test .taken) (c .before .before .wide .ensures) (c .before .before .before .before .before .before .before .pre) (c .before .if1 .left)
+    let at-if1 = c .before in
+    let at-wide = at-if1 .before in
+    let at-loop-test = at-wide .before .before in
+    let at-loop = at-loop-test .before in
+    let at-pre = at-loop .before .before in
+    read-room (at-loop .loop .inv) (at-loop-test .loop-test .taken) (at-wide .wide .ensures) (at-pre .pre) (at-if1 .if1 .left)
 
 returns-2 : tie.Need-returns-2 Inv-loop μ-loop
 returns-2 c =
+    let at-contains = c .before in
+    let at-wide = at-contains .before .before .before in
+    let at-loop-test = at-wide .before .before in
+    let at-loop = at-loop-test .before in
     sym
-    (read-again (c .before .before .before .before .before .before .before .loop .inv) (c .before .before .before .before .before .before .loop-test .taken) (c .before .before .before .before .wide .ensures) (sym (c .before .contains .ensures) ∙ c .if2 .taken))
+    (read-again (at-loop .loop .inv) (at-loop-test .loop-test .taken) (at-wide .wide .ensures) (sym (at-contains .contains .ensures) ∙ c .if2 .taken))
 
 slice-aggregate-insert-vertex : tie.Need-slice-aggregate-insert-vertex Inv-loop μ-loop
 slice-aggregate-insert-vertex c = sym (c .before .before .before .before .before .before .before .before .loop .inv .size)
 
 insert-vertex-requires : tie.Need-insert-vertex-requires Inv-loop μ-loop
 insert-vertex-requires c κs =
-    let r = c .before .before .before .before .before .before .before .before .loop .inv in
-    let l = c .before .before .before .before .before .before .before .loop-test .taken in
-    let e = c .before .before .before .before .before .wide .ensures in
-    let p = read-room r l e (c .before .before .before .before .before .before .before .before .before .before .pre) (c .before .before .before .before .if1 .left) in
-    (p .0, p .1, read-clear r l e (sym (c .before .before .contains .ensures) ∙ c .before .if2 .left))
+    let at-if2 = c .before in
+    let at-contains = at-if2 .before in
+    let at-if1 = at-contains .before .before in
+    let at-wide = at-if1 .before in
+    let at-loop-test = at-wide .before .before in
+    let at-loop = at-loop-test .before in
+    let at-pre = at-loop .before .before in
+    let r = at-loop .loop .inv in
+    let l = at-loop-test .loop-test .taken in
+    let e = at-wide .wide .ensures in
+    let p = read-room r l e (at-pre .pre) (at-if1 .if1 .left) in
+    (p .0, p .1, read-clear r l e (sym (at-contains .contains .ensures) ∙ at-if2 .if2 .left))
 
 loop-less : tie.Need-loop-less Inv-loop μ-loop
 loop-less c = search needs
 
 loop-again : tie.Need-loop-again Inv-loop μ-loop
 loop-again c =
-    read-on (c .before .before .before .before .before .before .before .before .before .before .loop .inv) (c .before .before .before .before .before .before .before .before .before .loop-test .taken) (c .before .before .before .before .before .before .before .wide .ensures)
-    (c .before .before .before .before .before .before .before .before .before .before .before .before .pre) (c .before .before .before .before .before .before .if1 .left) (sym (c .before .before .before .before .contains .ensures) ∙ c .before .before .before .if2 .left) (c .before .insert-vertex .ensures)
+    let at-insert-vertex = c .before in
+    let at-if2 = at-insert-vertex .before .before in
+    let at-contains = at-if2 .before in
+    let at-if1 = at-contains .before .before in
+    let at-wide = at-if1 .before in
+    let at-loop-test = at-wide .before .before in
+    let at-loop = at-loop-test .before in
+    let at-pre = at-loop .before .before in
+    read-on (at-loop .loop .inv) (at-loop-test .loop-test .taken) (at-wide .wide .ensures)
+    (at-pre .pre) (at-if1 .if1 .left) (sym (at-contains .contains .ensures) ∙ at-if2 .if2 .left) (at-insert-vertex .insert-vertex .ensures)
 
 returns-3 : tie.Need-returns-3 Inv-loop μ-loop
 returns-3 c = sym (read-all (c .before .loop .inv) (c .loop-test .left))

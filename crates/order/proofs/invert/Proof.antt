@@ -30,11 +30,17 @@ wide-requires c κs = search needs
 
 mul-inverse : tie.Need-mul-inverse Inv-loop μ-loop
 mul-inverse c =
-    omega (arith, inverted-room (c .before .before .before .before .before .before .pre .1) (c .before .before .before .loop .inv) (c .before .before .loop-test .taken) (c .wide .ensures))
+    let at-loop-test = c .before .before in
+    let at-loop = at-loop-test .before in
+    let at-pre = at-loop .before .before .before in
+    omega (arith, inverted-room (at-pre .pre .1) (at-loop .loop .inv) (at-loop-test .loop-test .taken) (c .wide .ensures))
 
 slice-write-inverse : tie.Need-slice-write-inverse Inv-loop μ-loop
 slice-write-inverse c =
-    inverted-room (c .before .before .before .before .before .before .pre .1) (c .before .before .before .loop .inv) (c .before .before .loop-test .taken) (c .wide .ensures)
+    let at-loop-test = c .before .before in
+    let at-loop = at-loop-test .before in
+    let at-pre = at-loop .before .before .before in
+    inverted-room (at-pre .pre .1) (at-loop .loop .inv) (at-loop-test .loop-test .taken) (c .wide .ensures)
 
 add-r : tie.Need-add-r Inv-loop μ-loop
 add-r c = search needs
@@ -44,7 +50,10 @@ loop-less c = search needs
 
 loop-again : tie.Need-loop-again Inv-loop μ-loop
 loop-again c =
-    inverted-more (c .before .before .before .before .before .before .pre .1) (c .before .before .before .loop .inv) (c .before .before .loop-test .taken) (c .wide .ensures)
+    let at-loop-test = c .before .before in
+    let at-loop = at-loop-test .before in
+    let at-pre = at-loop .before .before .before in
+    inverted-more (at-pre .pre .1) (at-loop .loop .inv) (at-loop-test .loop-test .taken) (c .wide .ensures)
 
 same-length : tie.Need-same-length Inv-loop μ-loop
 same-length c = c .before .loop .inv .size ∙ sym (c .before .before .before .before .pre .2)

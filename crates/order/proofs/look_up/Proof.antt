@@ -28,11 +28,18 @@ wide-requires c κs = search needs
 
 mul-out : tie.Need-mul-out Inv-loop μ-loop
 mul-out c =
-    omega (arith, c .wide .ensures, c .before .before .before .before .before .before .before .pre .1 .each (c .before .before .before .loop .i) (c .before .before .loop-test .taken))
+    let at-loop-test = c .before .before in
+    let at-loop = at-loop-test .before in
+    let at-pre = at-loop .before .before .before .before in
+    omega (arith, c .wide .ensures, at-pre .pre .1 .each (at-loop .loop .i) (at-loop-test .loop-test .taken))
 
 shared-slice-read-out : tie.Need-shared-slice-read-out Inv-loop μ-loop
 shared-slice-read-out c =
-    omega (arith, c .before .wide .ensures, c .before .before .before .before .before .before .before .before .pre .1 .each (c .before .before .before .before .loop .i) (c .before .before .before .loop-test .taken))
+    let at-wide = c .before in
+    let at-loop-test = at-wide .before .before in
+    let at-loop = at-loop-test .before in
+    let at-pre = at-loop .before .before .before .before in
+    omega (arith, at-wide .wide .ensures, at-pre .pre .1 .each (at-loop .loop .i) (at-loop-test .loop-test .taken))
 
 mul-out-2 : tie.Need-mul-out-2 Inv-loop μ-loop
 mul-out-2 c = search needs
@@ -47,7 +54,11 @@ loop-less : tie.Need-loop-less Inv-loop μ-loop
 loop-less c = search needs
 
 loop-again : tie.Need-loop-again Inv-loop μ-loop
-loop-again c = looked-up-more _ _ (c .before .before .before .before .loop .inv) (c .before .before .before .loop-test .taken) (c .before .wide .ensures)
+loop-again c =
+    let at-wide = c .before in
+    let at-loop-test = at-wide .before .before in
+    let at-loop = at-loop-test .before in
+    looked-up-more _ _ (at-loop .loop .inv) (at-loop-test .loop-test .taken) (at-wide .wide .ensures)
 
 same-length : tie.Need-same-length Inv-loop μ-loop
 same-length c = c .before .loop .inv .size ∙ looked-up-length _ _ ∙ sym (c .before .before .before .before .before .pre .0)

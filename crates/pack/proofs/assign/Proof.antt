@@ -8,7 +8,10 @@ fill-requires : tie.Need-fill-requires
 fill-requires c κs = search needs
 
 pack-requires : tie.Need-pack-requires
-pack-requires c κs = packable-cleared (c .before .before .before .before .before .before .before .before .before .before .pre .1) (c .before .before .before .before .fill .ensures)
+pack-requires c κs =
+    let at-fill = c .before .before .before .before in
+    let at-pre = at-fill .before .before .before .before .before .before in
+    packable-cleared (at-pre .pre .1) (at-fill .fill .ensures)
 
 spread-requires : tie.Need-spread-requires
 spread-requires c κs = search needs
@@ -21,7 +24,10 @@ same-length-2 c = search needs
 
 returns : tie.Need-returns
 returns c =
-    spread-assigned (c .before .before .before .before .before .before .before .before .before .before .before .before .before .before .before .before .before .before .before .pre .0) (c .before .before .before .before .before .before .before .before .pack .ensures) (c .before .before .spread .kept .1 .0 ∙ c .before .before .before .before .before .before .before .before .pack .kept .1 .1 .0 ∙ c .before .before .before .before .before .before .before .before .before .before .before .before .before .before .before .before .before .before .before .pre .1 .sized) (c .before .before .spread .ensures)
+    let at-spread = c .before .before in
+    let at-pack = at-spread .before .before .before .before .before .before in
+    let at-pre = at-pack .before .before .before .before .before .before .before .before .before .before .before in
+    spread-assigned (at-pre .pre .0) (at-pack .pack .ensures) (at-spread .spread .kept .1 .0 ∙ at-pack .pack .kept .1 .1 .0 ∙ at-pre .pre .1 .sized) (at-spread .spread .ensures)
 
 pub assign-spec : {M : Type 1} → statement M
 assign-spec =

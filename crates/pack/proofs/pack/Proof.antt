@@ -24,7 +24,10 @@ start-requires : tie.Need-start-requires Inv-loop μ-loop
 start-requires c κs = search needs
 
 loop-holds : tie.Need-loop-holds Inv-loop μ-loop
-loop-holds c = (packs-none (c .before .before .before .before .before .before .before .pre .0) (c .before .before .before .before .before .before .before .pre .1), tournament-same (c .before .before .before .before .before .before .before .pre .1) refl (c .before .start .ensures), lightest-zeros (c .before .before .before .before .before .before .before .pre .1) (c .before .before .before .before .before .before .before .pre .0 .some))
+loop-holds c =
+    let at-start = c .before in
+    let at-pre = at-start .before .before .before .before .before .before in
+    (packs-none (at-pre .pre .0) (at-pre .pre .1), tournament-same (at-pre .pre .1) refl (at-start .start .ensures), lightest-zeros (at-pre .pre .1) (at-pre .pre .0 .some))
 
 mul-wide : tie.Need-mul-wide Inv-loop μ-loop
 mul-wide c = search needs
@@ -36,7 +39,12 @@ wide-requires : tie.Need-wide-requires Inv-loop μ-loop
 wide-requires c κs = search needs
 
 cast-block : tie.Need-cast-block Inv-loop μ-loop
-cast-block c = omega (arith, packs-inside (c .before .before .before .before .before .before .before .before .before .before .before .before .pre .0) (c .before .before .before .before .loop .inv .0) (c .before .before .before .loop-test .taken) (sym (c .before .wide .ensures) ∙ c .if1 .taken) (c .before .before .before .before .loop .inv .2), packs-few (c .before .before .before .before .before .before .before .before .before .before .before .before .pre .0) (c .before .before .before .before .loop .inv .0))
+cast-block c =
+    let at-wide = c .before in
+    let at-loop-test = at-wide .before .before in
+    let at-loop = at-loop-test .before in
+    let at-pre = at-loop .before .before .before .before .before .before .before .before in
+    omega (arith, packs-inside (at-pre .pre .0) (at-loop .loop .inv .0) (at-loop-test .loop-test .taken) (sym (at-wide .wide .ensures) ∙ c .if1 .taken) (at-loop .loop .inv .2), packs-few (at-pre .pre .0) (at-loop .loop .inv .0))
 
 mul-block : tie.Need-mul-block Inv-loop μ-loop
 mul-block c = search needs
@@ -51,22 +59,52 @@ shared-slice-read-loads : tie.Need-shared-slice-read-loads Inv-loop μ-loop
 shared-slice-read-loads c = search needs
 
 mul-loads-2 : tie.Need-mul-loads-2 Inv-loop μ-loop
-mul-loads-2 c = omega (arith, packs-inside (c .before .before .before .before .before .before .before .before .before .before .before .before .before .pre .0) (c .before .before .before .before .before .loop .inv .0) (c .before .before .before .before .loop-test .taken) (sym (c .before .before .wide .ensures) ∙ c .before .if1 .taken) (c .before .before .before .before .before .loop .inv .2), packs-few (c .before .before .before .before .before .before .before .before .before .before .before .before .before .pre .0) (c .before .before .before .before .before .loop .inv .0))
+mul-loads-2 c =
+    let at-if1 = c .before in
+    let at-wide = at-if1 .before in
+    let at-loop-test = at-wide .before .before in
+    let at-loop = at-loop-test .before in
+    let at-pre = at-loop .before .before .before .before .before .before .before .before in
+    omega (arith, packs-inside (at-pre .pre .0) (at-loop .loop .inv .0) (at-loop-test .loop-test .taken) (sym (at-wide .wide .ensures) ∙ at-if1 .if1 .taken) (at-loop .loop .inv .2), packs-few (at-pre .pre .0) (at-loop .loop .inv .0))
 
 slice-read-loads : tie.Need-slice-read-loads Inv-loop μ-loop
-slice-read-loads c = packs-inside (c .before .before .before .before .before .before .before .before .before .before .before .before .before .before .pre .0) (c .before .before .before .before .before .before .loop .inv .0) (c .before .before .before .before .before .loop-test .taken) (sym (c .before .before .before .wide .ensures) ∙ c .before .before .if1 .taken) (c .before .before .before .before .before .before .loop .inv .2)
+slice-read-loads c =
+    let at-if1 = c .before .before in
+    let at-wide = at-if1 .before in
+    let at-loop-test = at-wide .before .before in
+    let at-loop = at-loop-test .before in
+    let at-pre = at-loop .before .before .before .before .before .before .before .before in
+    packs-inside (at-pre .pre .0) (at-loop .loop .inv .0) (at-loop-test .loop-test .taken) (sym (at-wide .wide .ensures) ∙ at-if1 .if1 .taken) (at-loop .loop .inv .2)
 
 add-loads : tie.Need-add-loads Inv-loop μ-loop
-add-loads c = omega (arith, packs-fits (c .before .before .before .before .before .before .before .before .before .before .before .before .before .before .pre .0) (c .before .before .before .before .before .before .loop .inv .0) (c .before .before .before .before .before .loop-test .taken) (sym (c .before .before .before .wide .ensures) ∙ c .before .before .if1 .taken) (c .before .before .before .before .before .before .loop .inv .2))
+add-loads c =
+    let at-if1 = c .before .before in
+    let at-wide = at-if1 .before in
+    let at-loop-test = at-wide .before .before in
+    let at-loop = at-loop-test .before in
+    let at-pre = at-loop .before .before .before .before .before .before .before .before in
+    omega (arith, packs-fits (at-pre .pre .0) (at-loop .loop .inv .0) (at-loop-test .loop-test .taken) (sym (at-wide .wide .ensures) ∙ at-if1 .if1 .taken) (at-loop .loop .inv .2))
 
 slice-write-loads : tie.Need-slice-write-loads Inv-loop μ-loop
-slice-write-loads c = packs-inside (c .before .before .before .before .before .before .before .before .before .before .before .before .before .before .pre .0) (c .before .before .before .before .before .before .loop .inv .0) (c .before .before .before .before .before .loop-test .taken) (sym (c .before .before .before .wide .ensures) ∙ c .before .before .if1 .taken) (c .before .before .before .before .before .before .loop .inv .2)
+slice-write-loads c =
+    let at-if1 = c .before .before in
+    let at-wide = at-if1 .before in
+    let at-loop-test = at-wide .before .before in
+    let at-loop = at-loop-test .before in
+    let at-pre = at-loop .before .before .before .before .before .before .before .before in
+    packs-inside (at-pre .pre .0) (at-loop .loop .inv .0) (at-loop-test .loop-test .taken) (sym (at-wide .wide .ensures) ∙ at-if1 .if1 .taken) (at-loop .loop .inv .2)
 
 slice-aggregate-replay : tie.Need-slice-aggregate-replay Inv-loop μ-loop
 slice-aggregate-replay c = search needs
 
 replay-requires : tie.Need-replay-requires Inv-loop μ-loop
-replay-requires c κs = outdated (c .before .before .before .before .before .before .before .before .loop .inv .1) (packs-few (c .before .before .before .before .before .before .before .before .before .before .before .before .before .before .before .before .pre .0) (c .before .before .before .before .before .before .before .before .loop .inv .0)) _ (packs-inside (c .before .before .before .before .before .before .before .before .before .before .before .before .before .before .before .before .pre .0) (c .before .before .before .before .before .before .before .before .loop .inv .0) (c .before .before .before .before .before .before .before .loop-test .taken) (sym (c .before .before .before .before .before .wide .ensures) ∙ c .before .before .before .before .if1 .taken) (c .before .before .before .before .before .before .before .before .loop .inv .2))
+replay-requires c κs =
+    let at-if1 = c .before .before .before .before in
+    let at-wide = at-if1 .before in
+    let at-loop-test = at-wide .before .before in
+    let at-loop = at-loop-test .before in
+    let at-pre = at-loop .before .before .before .before .before .before .before .before in
+    outdated (at-loop .loop .inv .1) (packs-few (at-pre .pre .0) (at-loop .loop .inv .0)) _ (packs-inside (at-pre .pre .0) (at-loop .loop .inv .0) (at-loop-test .loop-test .taken) (sym (at-wide .wide .ensures) ∙ at-if1 .if1 .taken) (at-loop .loop .inv .2))
 
 add-x : tie.Need-add-x Inv-loop μ-loop
 add-x c = search needs
@@ -76,9 +114,23 @@ loop-less c = search needs
 
 loop-again : tie.Need-loop-again Inv-loop μ-loop
 loop-again c =
+    let at-wide = c .before in
+    let at-loop-test = at-wide .before .before in
+    let at-loop = at-loop-test .before in
+    let at-pre = at-loop .before .before .before .before .before .before .before .before in
     ⊎-elim
-    (λ w. (packs-more (c .before .before .before .before .before .before .before .before .before .before .before .before .pre .0) (c .before .before .before .before .loop .inv .0) (c .before .before .before .loop-test .taken) (sym (c .before .wide .ensures) ∙ w .0 .taken) (c .before .before .before .before .loop .inv .2) (w .7) (w .8), tournament-same (w .8) (w .9) (w .5 .ensures .0), w .10 ∙ w .5 .ensures .1 ∙ ap lightest (sym (w .8))))
-    (λ w. (packs-pass (c .before .before .before .before .before .before .before .before .before .before .before .before .pre .0) (c .before .before .before .before .loop .inv .0) (c .before .before .before .loop-test .taken) (λ e. w .0 .left (c .before .wide .ensures ∙ e)) (w .1) (w .2), tournament-same (w .2) (w .3) (c .before .before .before .before .loop .inv .1), w .4 ∙ c .before .before .before .before .loop .inv .2 ∙ ap lightest (sym (w .2))))
+    (λ w. (
+      packs-more (at-pre .pre .0) (at-loop .loop .inv .0) (at-loop-test .loop-test .taken) (sym (at-wide .wide .ensures) ∙ w .0 .taken) (at-loop .loop .inv .2) (w .7) (w .8),
+      tournament-same
+          (w .8) (w .9) (w .5 .ensures .0),
+      w .10 ∙ w .5 .ensures .1 ∙ ap lightest (sym (w .8)),
+    ))
+    (λ w. (
+      packs-pass (at-pre .pre .0) (at-loop .loop .inv .0) (at-loop-test .loop-test .taken) (λ e. w .0 .left (at-wide .wide .ensures ∙ e)) (w .1) (w .2),
+      tournament-same (w .2) (w .3)
+          (at-loop .loop .inv .1),
+      w .4 ∙ at-loop .loop .inv .2 ∙ ap lightest (sym (w .2)),
+    ))
     (c .if1 .came)
 
 same-length : tie.Need-same-length Inv-loop μ-loop

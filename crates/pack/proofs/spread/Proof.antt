@@ -25,10 +25,19 @@ wide-requires : tie.Need-wide-requires Inv-loop μ-loop
 wide-requires c κs = search needs
 
 mul-block : tie.Need-mul-block Inv-loop μ-loop
-mul-block c = omega (arith, spread-inside (c .before .before .before .before .before .before .pre .0) (c .before .before .before .loop .inv) (c .before .before .loop-test .taken) (c .wide .ensures))
+mul-block c =
+    let at-loop-test = c .before .before in
+    let at-loop = at-loop-test .before in
+    let at-pre = at-loop .before .before .before in
+    omega (arith, spread-inside (at-pre .pre .0) (at-loop .loop .inv) (at-loop-test .loop-test .taken) (c .wide .ensures))
 
 slice-read-block : tie.Need-slice-read-block Inv-loop μ-loop
-slice-read-block c = spread-inside (c .before .before .before .before .before .before .before .pre .0) (c .before .before .before .before .loop .inv) (c .before .before .before .loop-test .taken) (c .before .wide .ensures)
+slice-read-block c =
+    let at-wide = c .before in
+    let at-loop-test = at-wide .before .before in
+    let at-loop = at-loop-test .before in
+    let at-pre = at-loop .before .before .before in
+    spread-inside (at-pre .pre .0) (at-loop .loop .inv) (at-loop-test .loop-test .taken) (at-wide .wide .ensures)
 
 mul-block-2 : tie.Need-mul-block-2 Inv-loop μ-loop
 mul-block-2 c = search needs
@@ -43,7 +52,12 @@ loop-less : tie.Need-loop-less Inv-loop μ-loop
 loop-less c = search needs
 
 loop-again : tie.Need-loop-again Inv-loop μ-loop
-loop-again c = spread-more (c .before .before .before .before .before .before .before .pre .0) (c .before .before .before .before .loop .inv) (c .before .before .before .loop-test .taken) (c .before .wide .ensures)
+loop-again c =
+    let at-wide = c .before in
+    let at-loop-test = at-wide .before .before in
+    let at-loop = at-loop-test .before in
+    let at-pre = at-loop .before .before .before in
+    spread-more (at-pre .pre .0) (at-loop .loop .inv) (at-loop-test .loop-test .taken) (at-wide .wide .ensures)
 
 same-length : tie.Need-same-length Inv-loop μ-loop
 same-length c = search needs

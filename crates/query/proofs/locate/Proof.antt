@@ -39,7 +39,10 @@ sub-t13 c = rw (c .before .before .wide .ensures) (accepted (c .before .before) 
 
 returns-2 : tie.Need-returns-2
 returns-2 c =
-    place-accepted _ _ (c .before .before .before .before .query-refusal .ensures) (c .before .before .before .if1 .left) (c .before .before .wide .ensures)
+    let at-wide = c .before .before in
+    let at-if1 = at-wide .before in
+    let at-query-refusal = at-if1 .before in
+    place-accepted _ _ (at-query-refusal .query-refusal .ensures) (at-if1 .if1 .left) (at-wide .wide .ensures)
 
 pub locate-spec : {M : Type 1} → statement M
 locate-spec =

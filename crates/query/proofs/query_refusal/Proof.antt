@@ -31,10 +31,14 @@ starts-rise-requires c κs = search needs
 returns-3 : tie.Need-returns-3
 unfolding queryRefusal vertices
 returns-3 c =
+    let at-starts-rise = c .before in
+    let at-if2 = at-starts-rise .before in
+    let at-bad-count = at-if2 .before in
+    let at-if1 = at-bad-count .before in
     sym
-    (pass _ _ (ne-eqb _ _ (c .before .before .before .before .if1 .left))
-    ∙ pass _ _ (sym (c .before .before .before .bad-count .ensures) ∙ c .before .before .if2 .left)
-    ∙ stop _ _ (ap not (sym (c .before .starts-rise .ensures)) ∙ c .if3 .taken))
+    (pass _ _ (ne-eqb _ _ (at-if1 .if1 .left))
+    ∙ pass _ _ (sym (at-bad-count .bad-count .ensures) ∙ at-if2 .if2 .left)
+    ∙ stop _ _ (ap not (sym (at-starts-rise .starts-rise .ensures)) ∙ c .if3 .taken))
 
 wide-requires : tie.Need-wide-requires
 wide-requires c κs = search needs
@@ -42,20 +46,32 @@ wide-requires c κs = search needs
 returns-4 : tie.Need-returns-4
 unfolding queryRefusal vertices
 returns-4 c =
+    let at-wide = c .before in
+    let at-if3 = at-wide .before in
+    let at-starts-rise = at-if3 .before in
+    let at-if2 = at-starts-rise .before in
+    let at-bad-count = at-if2 .before in
+    let at-if1 = at-bad-count .before in
     sym
-    (pass _ _ (ne-eqb _ _ (c .before .before .before .before .before .before .if1 .left))
-    ∙ pass _ _ (sym (c .before .before .before .before .before .bad-count .ensures) ∙ c .before .before .before .before .if2 .left)
-    ∙ pass _ _ (ap not (sym (c .before .before .before .starts-rise .ensures)) ∙ c .before .before .if3 .left)
-    ∙ stop _ _ (le-leb _ _ (rw (c .before .wide .ensures) at (c .if4 .taken))))
+    (pass _ _ (ne-eqb _ _ (at-if1 .if1 .left))
+    ∙ pass _ _ (sym (at-bad-count .bad-count .ensures) ∙ at-if2 .if2 .left)
+    ∙ pass _ _ (ap not (sym (at-starts-rise .starts-rise .ensures)) ∙ at-if3 .if3 .left)
+    ∙ stop _ _ (le-leb _ _ (rw (at-wide .wide .ensures) at (c .if4 .taken))))
 
 returns-5 : tie.Need-returns-5
 unfolding queryRefusal vertices
 returns-5 c =
+    let at-wide = c .before in
+    let at-if3 = at-wide .before in
+    let at-starts-rise = at-if3 .before in
+    let at-if2 = at-starts-rise .before in
+    let at-bad-count = at-if2 .before in
+    let at-if1 = at-bad-count .before in
     sym
-    (pass _ _ (ne-eqb _ _ (c .before .before .before .before .before .before .if1 .left))
-    ∙ pass _ _ (sym (c .before .before .before .before .before .bad-count .ensures) ∙ c .before .before .before .before .if2 .left)
-    ∙ pass _ _ (ap not (sym (c .before .before .before .starts-rise .ensures)) ∙ c .before .before .if3 .left)
-    ∙ pass _ _ (lt-leb _ _ (rw (c .before .wide .ensures) at (c .if4 .left)))
+    (pass _ _ (ne-eqb _ _ (at-if1 .if1 .left))
+    ∙ pass _ _ (sym (at-bad-count .bad-count .ensures) ∙ at-if2 .if2 .left)
+    ∙ pass _ _ (ap not (sym (at-starts-rise .starts-rise .ensures)) ∙ at-if3 .if3 .left)
+    ∙ pass _ _ (lt-leb _ _ (rw (at-wide .wide .ensures) at (c .if4 .left)))
     ∙ first-end)
 
 pub query-refusal-spec : {M : Type 1} → statement M

@@ -36,8 +36,11 @@ shared-slice-read-sum c = search needs
 
 sub-sum : tie.Need-sub-sum Inv-loop μ-loop
 sub-sum c =
-    let (f, b) = c .before .before .before .before .before .before .before .before .pre .1 .1 in
-    turn-less b (c .before .before .before .loop-test .taken) (c .before .before .before .before .loop .inv .1) .0
+    let at-loop-test = c .before .before .before in
+    let at-loop = at-loop-test .before in
+    let at-pre = at-loop .before .before .before .before in
+    let (f, b) = at-pre .pre .1 .1 in
+    turn-less b (at-loop-test .loop-test .taken) (at-loop .loop .inv .1) .0
 
 mul-reach : tie.Need-mul-reach Inv-loop μ-loop
 mul-reach c = search needs
@@ -50,30 +53,42 @@ add-x c = search needs
 
 add-at-requires : tie.Need-add-at-requires Inv-loop μ-loop
 add-at-requires c κs =
-    let (f, b) = c .before .before .before .before .before .before .before .before .before .before .pre .1 .1 in
-    let h = c .before .before .before .before .before .loop-test .taken in
-    let d = c .before .before .before .before .before .before .loop .inv .1 in
-    turn-fits _ (c .before .before .before .before .before .before .before .before .before .before .pre .0) h d (turn-less b h d .1) (c .before .if1 .taken)
+    let at-if1 = c .before in
+    let at-loop-test = at-if1 .before .before .before .before in
+    let at-loop = at-loop-test .before in
+    let at-pre = at-loop .before .before .before .before in
+    let (f, b) = at-pre .pre .1 .1 in
+    let h = at-loop-test .loop-test .taken in
+    let d = at-loop .loop .inv .1 in
+    turn-fits _ (at-pre .pre .0) h d (turn-less b h d .1) (at-if1 .if1 .taken)
 
 loop-less : tie.Need-loop-less Inv-loop μ-loop
 loop-less c = search needs
 
 loop-again : tie.Need-loop-again Inv-loop μ-loop
 loop-again c =
-    let (f, b) = c .before .before .before .before .before .before .before .before .before .before .before .before .before .pre .1 .1 in
-    let h = c .before .before .before .before .before .before .before .before .loop-test .taken in
-    let d = c .before .before .before .before .before .before .before .before .before .loop .inv .1 in
-    (search needs, turn-child _ (c .before .before .before .before .before .before .before .before .before .before .before .before .before .pre .0) h d (turn-less b h d .1) (c .before .before .before .before .if1 .taken) (c .before .before .add-at .ensures))
+    let at-add-at = c .before .before in
+    let at-if1 = at-add-at .before .before in
+    let at-loop-test = at-if1 .before .before .before .before in
+    let at-loop = at-loop-test .before in
+    let at-pre = at-loop .before .before .before .before in
+    let (f, b) = at-pre .pre .1 .1 in
+    let h = at-loop-test .loop-test .taken in
+    let d = at-loop .loop .inv .1 in
+    (search needs, turn-child _ (at-pre .pre .0) h d (turn-less b h d .1) (at-if1 .if1 .taken) (at-add-at .add-at .ensures))
 
 loop-less-2 : tie.Need-loop-less-2 Inv-loop μ-loop
 loop-less-2 c = search needs
 
 loop-again-2 : tie.Need-loop-again-2 Inv-loop μ-loop
 loop-again-2 c =
-    let (f, b) = c .before .before .before .before .before .before .before .before .before .pre .1 .1 in
-    let h = c .before .before .before .before .loop-test .taken in
-    let d = c .before .before .before .before .before .loop .inv .1 in
-    (search needs, turn-root _ (c .before .before .before .before .before .before .before .before .before .pre .0) h d (turn-less b h d .1) (c .if1 .left))
+    let at-loop-test = c .before .before .before .before in
+    let at-loop = at-loop-test .before in
+    let at-pre = at-loop .before .before .before .before in
+    let (f, b) = at-pre .pre .1 .1 in
+    let h = at-loop-test .loop-test .taken in
+    let d = at-loop .loop .inv .1 in
+    (search needs, turn-root _ (at-pre .pre .0) h d (turn-less b h d .1) (c .if1 .left))
 
 same-length : tie.Need-same-length Inv-loop μ-loop
 same-length c = search needs

@@ -25,7 +25,11 @@ same-length-2 c = search needs
 
 returns-2 : tie.Need-returns-2
 unfolding readOutcome verdict
-returns-2 c = ends-accepted _ _ _ _ refl (sym (c .before .before .before .before .before .before .before .before .read-refusal .ensures) ∙ c .before .before .before .before .before .before .before .if1 .left) (c .before .before .before .before .take-records .ensures)
+returns-2 c =
+    let at-take-records = c .before .before .before .before in
+    let at-if1 = at-take-records .before .before .before in
+    let at-read-refusal = at-if1 .before in
+    ends-accepted _ _ _ _ refl (sym (at-read-refusal .read-refusal .ensures) ∙ at-if1 .if1 .left) (at-take-records .take-records .ensures)
 
 pub read-spec : {M : Type 1} → statement M
 read-spec =

@@ -31,7 +31,12 @@ records-refusal-requires c κs = (c .if3 .left, good-count _ (sym (c .before .be
 
 returns-4 : tie.Need-returns-4
 unfolding readRefusal given wrongLength first
-returns-4 c = simp (sym (c .before .before .before .before .bad-count .ensures) ∙ c .before .before .before .if1 .left, eq-eqb _ _ (c .before .before .if2 .left), eq-eqb _ _ (c .before .if3 .left)) (c .records-refusal .ensures ∙ sym (first-last _))
+returns-4 c =
+    let at-if3 = c .before in
+    let at-if2 = at-if3 .before in
+    let at-if1 = at-if2 .before in
+    let at-bad-count = at-if1 .before in
+    simp (sym (at-bad-count .bad-count .ensures) ∙ at-if1 .if1 .left, eq-eqb _ _ (at-if2 .if2 .left), eq-eqb _ _ (at-if3 .if3 .left)) (c .records-refusal .ensures ∙ sym (first-last _))
 
 pub read-refusal-spec : {M : Type 1} → statement M
 read-refusal-spec =

@@ -23,7 +23,12 @@ is-parent-at-requires : tie.Need-is-parent-at-requires Inv-loop μ-loop
 is-parent-at-requires c κs = search needs
 
 returns : tie.Need-returns Inv-loop μ-loop
-returns c = sym (checked-stop (c .before .before .before .before .before .pre .0) (c .before .before .before .loop .inv .2) (c .before .before .loop-test .taken) (sym (c .before .is-parent-at .ensures) ∙ not-true _ (c .if1 .taken)))
+returns c =
+    let at-is-parent-at = c .before in
+    let at-loop-test = at-is-parent-at .before in
+    let at-loop = at-loop-test .before in
+    let at-pre = at-loop .before .before in
+    sym (checked-stop (at-pre .pre .0) (at-loop .loop .inv .2) (at-loop-test .loop-test .taken) (sym (at-is-parent-at .is-parent-at .ensures) ∙ not-true _ (c .if1 .taken)))
 
 add-word-at : tie.Need-add-word-at Inv-loop μ-loop
 add-word-at c = search needs
@@ -44,11 +49,17 @@ loop-less : tie.Need-loop-less Inv-loop μ-loop
 loop-less c = search needs
 
 loop-again : tie.Need-loop-again Inv-loop μ-loop
-loop-again c = (
-  search needs,
-  omega (arith, c .before .word-at .ok),
-  checked-turn (c .before .before .before .before .before .before .before .pre .0) (c .before .before .before .before .before .loop .inv .2) (c .before .before .before .before .loop-test .taken) (sym (c .before .before .before .is-parent-at .ensures) ∙ not-false _ (c .before .before .if1 .left)) (c .amount .ensures ∙ c .before .word-at .ensures),
-)
+loop-again c =
+    let at-word-at = c .before in
+    let at-if1 = at-word-at .before in
+    let at-is-parent-at = at-if1 .before in
+    let at-loop-test = at-is-parent-at .before in
+    let at-loop = at-loop-test .before in
+    let at-pre = at-loop .before .before in (
+      search needs,
+      omega (arith, at-word-at .word-at .ok),
+      checked-turn (at-pre .pre .0) (at-loop .loop .inv .2) (at-loop-test .loop-test .taken) (sym (at-is-parent-at .is-parent-at .ensures) ∙ not-false _ (at-if1 .if1 .left)) (c .amount .ensures ∙ at-word-at .word-at .ensures),
+    )
 
 returns-2 : tie.Need-returns-2 Inv-loop μ-loop
 returns-2 c = sym (checked-above (c .before .before .before .before .pre .0) (c .before .before .loop .inv .2) (c .before .loop-test .left) (c .if2 .taken))

@@ -47,12 +47,16 @@ loop-less : tie.Need-loop-less Inv-loop μ-loop
 loop-less c = search needs
 
 loop-again : tie.Need-loop-again Inv-loop μ-loop
-loop-again c = (
-  search needs,
-  search needs,
-  search needs,
-  taken-turn (c .before .before .before .before .before .before .before .pre .1) (c .before .before .before .loop .inv .1) (c .before .before .before .loop .inv .2) (c .before .before .before .loop .inv .3) (c .before .before .loop-test .taken) (c .before .word-at .ensures) (c .word-at2 .ensures),
-)
+loop-again c =
+    let at-word-at = c .before in
+    let at-loop-test = at-word-at .before in
+    let at-loop = at-loop-test .before in
+    let at-pre = at-loop .before .before .before .before in (
+      search needs,
+      search needs,
+      search needs,
+      taken-turn (at-pre .pre .1) (at-loop .loop .inv .1) (at-loop .loop .inv .2) (at-loop .loop .inv .3) (at-loop-test .loop-test .taken) (at-word-at .word-at .ensures) (c .word-at2 .ensures),
+    )
 
 same-length : tie.Need-same-length Inv-loop μ-loop
 same-length c = search needs

@@ -46,7 +46,11 @@ loop-less : tie.Need-loop-less Inv-loop μ-loop
 loop-less c = search needs
 
 loop-again : tie.Need-loop-again Inv-loop μ-loop
-loop-again c = (search needs, sweep-on _ (c .before .before .before .before .before .before .args .edges .now) _ (c .before .before .before .before .loop .found) (c .before .before .before .loop-test .taken) (c .is-faulty .ensures) ∙ c .before .before .before .before .loop .inv .1)
+loop-again c =
+    let at-loop-test = c .before .before .before in
+    let at-loop = at-loop-test .before in
+    let at-args = at-loop .before .before in
+    (search needs, sweep-on _ (at-args .args .edges .now) _ (at-loop .loop .found) (at-loop-test .loop-test .taken) (c .is-faulty .ensures) ∙ at-loop .loop .inv .1)
 
 returns : tie.Need-returns Inv-loop μ-loop
 returns c = sym (sweep-end _ _ _ _ (c .loop-test .left)) ∙ c .before .loop .inv .1

@@ -19,8 +19,11 @@ invert-requires c κs =
 
 look-up-requires : tie.Need-look-up-requires
 look-up-requires c κs =
-    let a = relabel-known _ _ _ _ (c .before .before .before .before .before .before .before .relabel-refusal .ensures) (c .before .before .before .before .before .before .if1 .left) in
-    (a .same, inverse-room _ (c .before .before .before .before .invert .ensures) (a .vertices))
+    let at-invert = c .before .before .before .before in
+    let at-if1 = at-invert .before .before in
+    let at-relabel-refusal = at-if1 .before in
+    let a = relabel-known _ _ _ _ (at-relabel-refusal .relabel-refusal .ensures) (at-if1 .if1 .left) in
+    (a .same, inverse-room _ (at-invert .invert .ensures) (a .vertices))
 
 same-length : tie.Need-same-length
 same-length c = search needs
@@ -31,7 +34,11 @@ same-length-2 c = search needs
 returns-2 : tie.Need-returns-2
 unfolding verdict
 returns-2 c =
-    relabel-accepted _ _ _ _ (c .before .before .before .before .before .before .before .before .before .before .relabel-refusal .ensures) (c .before .before .before .before .before .before .before .before .before .if1 .left) (c .before .before .before .before .before .before .before .invert .ensures) (c .before .before .look-up .ensures)
+    let at-look-up = c .before .before in
+    let at-invert = at-look-up .before .before .before .before .before in
+    let at-if1 = at-invert .before .before in
+    let at-relabel-refusal = at-if1 .before in
+    relabel-accepted _ _ _ _ (at-relabel-refusal .relabel-refusal .ensures) (at-if1 .if1 .left) (at-invert .invert .ensures) (at-look-up .look-up .ensures)
 
 pub relabel-spec : {M : Type 1} → statement M
 relabel-spec =

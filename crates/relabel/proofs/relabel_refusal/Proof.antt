@@ -19,24 +19,41 @@ returns-3 c = sym (refused-out _ _ _ _ (sym (c .before .before .before .bad-coun
 
 returns-4 : tie.Need-returns-4
 returns-4 c =
-    sym (refused-inverse _ _ _ _ (sym (c .before .before .before .before .bad-count .ensures) ∙ c .before .before .before .if1 .left) (c .before .before .if2 .left) (c .before .if3 .left) (c .if4 .taken))
+    let at-if3 = c .before in
+    let at-if2 = at-if3 .before in
+    let at-if1 = at-if2 .before in
+    let at-bad-count = at-if1 .before in
+    sym (refused-inverse _ _ _ _ (sym (at-bad-count .bad-count .ensures) ∙ at-if1 .if1 .left) (at-if2 .if2 .left) (at-if3 .if3 .left) (c .if4 .taken))
 
 bad-order-requires : tie.Need-bad-order-requires
 bad-order-requires c κs = good-count _ (sym (c .before .before .before .before .bad-count .ensures) ∙ c .before .before .before .if1 .left) .1
 
 returns-5 : tie.Need-returns-5
 returns-5 c =
+    let at-bad-order = c .before in
+    let at-if4 = at-bad-order .before in
+    let at-if3 = at-if4 .before in
+    let at-if2 = at-if3 .before in
+    let at-if1 = at-if2 .before in
+    let at-bad-count = at-if1 .before in
     sym
-    (refused-order _ _ _ _ (sym (c .before .before .before .before .before .before .bad-count .ensures) ∙ c .before .before .before .before .before .if1 .left) (c .before .before .before .before .if2 .left) (c .before .before .before .if3 .left) (c .before .before .if4 .left) (sym (c .before .bad-order .ensures) ∙ c .if5 .taken))
+    (refused-order _ _ _ _ (sym (at-bad-count .bad-count .ensures) ∙ at-if1 .if1 .left) (at-if2 .if2 .left) (at-if3 .if3 .left) (at-if4 .if4 .left) (sym (at-bad-order .bad-order .ensures) ∙ c .if5 .taken))
 
 list-fault-requires : tie.Need-list-fault-requires
 list-fault-requires c κs = search needs
 
 returns-6 : tie.Need-returns-6
 returns-6 c =
+    let at-if5 = c .before in
+    let at-bad-order = at-if5 .before in
+    let at-if4 = at-bad-order .before in
+    let at-if3 = at-if4 .before in
+    let at-if2 = at-if3 .before in
+    let at-if1 = at-if2 .before in
+    let at-bad-count = at-if1 .before in
     c .list-fault .ensures
     ∙ sym
-    (refused-edge _ _ _ _ (sym (c .before .before .before .before .before .before .before .bad-count .ensures) ∙ c .before .before .before .before .before .before .if1 .left) (c .before .before .before .before .before .if2 .left) (c .before .before .before .before .if3 .left) (c .before .before .before .if4 .left) (sym (c .before .before .bad-order .ensures) ∙ c .before .if5 .left))
+    (refused-edge _ _ _ _ (sym (at-bad-count .bad-count .ensures) ∙ at-if1 .if1 .left) (at-if2 .if2 .left) (at-if3 .if3 .left) (at-if4 .if4 .left) (sym (at-bad-order .bad-order .ensures) ∙ at-if5 .if5 .left))
 
 pub relabel-refusal-spec : {M : Type 1} → statement M
 relabel-refusal-spec =

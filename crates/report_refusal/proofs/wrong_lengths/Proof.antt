@@ -20,8 +20,13 @@ wrong-compared-requires c κs = search needs
 
 returns : tie.Need-returns
 returns c =
-    let a = c .before .before .before .before .before .before .before .args in
-    wrong-told (a .parents .now) (a .weights .now) (a .edges .now) (a .carried) (a .top) (a .block) (a .block-loads) (a .edge-blocks) (a .reach) (a .block-count) (a .edges-taken) (a .compared-parents) (a .compared-weights) (a .ends) (a .jump) (a .lower) _ (c .before .before .before .wide .ensures) (c .before .before .wrong-tables .ensures) (c .before .wrong-figures .ensures) (c .wrong-compared .ensures)
+    let at-wrong-figures = c .before in
+    let at-wrong-tables = at-wrong-figures .before in
+    let at-wide = at-wrong-tables .before in
+    let at-args = at-wide .before .before .before .before in
+    let a = at-args .args in
+    wrong-told (a .parents .now) (a .weights .now) (a .edges .now) (a .carried) (a .top) (a .block) (a .block-loads) (a .edge-blocks) (a .reach) (a .block-count) (a .edges-taken) (a .compared-parents)
+    (a .compared-weights) (a .ends) (a .jump) (a .lower) _ (at-wide .wide .ensures) (at-wrong-tables .wrong-tables .ensures) (at-wrong-figures .wrong-figures .ensures) (c .wrong-compared .ensures)
 
 pub wrong-lengths-spec : {M : Type 1} → statement M
 wrong-lengths-spec =

@@ -10,8 +10,10 @@ reaches-requires c κs =
 
 cut-and-pack-requires : tie.Need-cut-and-pack-requires
 cut-and-pack-requires c κs =
-    let (es, q) = c .before .before .before .before .before .before .before .before .before .before .before .before .before .before .before .before .before .before .before .before .before .before .before .before .before .before .before .before .before .before .before .before .before .before .pre in
-    let k = c .before .before .before .before .before .before .before .before .before .before .before .before .before .before .before .before .reaches .kept in
+    let at-reaches = c .before .before .before .before .before .before .before .before .before .before .before .before .before .before .before .before in
+    let at-pre = at-reaches .before .before .before .before .before .before .before .before .before .before .before .before .before .before .before .before .before .before in
+    let (es, q) = at-pre .pre in
+    let k = at-reaches .reaches .kept in
     (q .divisible, fitting-kept (q .division) (k .1 .1 .1 .1 .1 .0) (k .1 .1 .1 .1 .1 .1 .0) (k .1 .1 .1 .1 .1 .1 .1 .0))
 
 same-length : tie.Need-same-length
@@ -36,7 +38,10 @@ same-length-7 : tie.Need-same-length-7
 same-length-7 c = search needs
 
 returns : tie.Need-returns
-returns c = λ es q. record { divided-so = c .before .before .before .before .before .before .before .before .cut-and-pack .ensures; reached = c .before .before .before .before .before .before .before .before .before .before .before .before .before .before .before .before .before .before .before .before .before .before .before .before .before .reaches .ensures es (q .own) (q .filed) }
+returns c =
+    let at-cut-and-pack = c .before .before .before .before .before .before .before .before in
+    let at-reaches = at-cut-and-pack .before .before .before .before .before .before .before .before .before .before .before .before .before .before .before .before .before in
+    λ es q. record { divided-so = at-cut-and-pack .cut-and-pack .ensures; reached = at-reaches .reaches .ensures es (q .own) (q .filed) }
 
 pub divide-and-reach-spec : {M : Type 1} → statement M
 divide-and-reach-spec =

@@ -17,8 +17,10 @@ fill-requires c κs = search needs
 
 raise-list-requires : tie.Need-raise-list-requires
 raise-list-requires c κs =
-    let g = c .before .before .before .before .before .before .before .before .before .before .before .before .before .pre in
-    (g .0, c .before .before .before .before .before .fill .ensures ∙ ap (λ (n : ℕ). replicate n absent) (g .2))
+    let at-fill = c .before .before .before .before .before in
+    let at-pre = at-fill .before .before .before .before .before .before .before .before in
+    let g = at-pre .pre in
+    (g .0, at-fill .fill .ensures ∙ ap (λ (n : ℕ). replicate n absent) (g .2))
 
 clear-requires : tie.Need-clear-requires
 clear-requires c κs = search needs
@@ -40,12 +42,15 @@ same-length-5 c = search needs
 
 returns : tie.Need-returns
 returns c =
-    let (g, blank, long) = c .before .before .before .before .before .before .before .before .before .before .before .before .before .before .before .before .before .before .before .before .before .before .before .before .before .before .before .before .before .before .pre in
-    let l : tie.After-raise-list = c .before .before .before .before .before .before .before .before .before .before .before .before .before .before .before .before in
+    let at-clear = c .before .before .before .before .before .before in
+    let at-fill = at-clear .before .before .before .before .before .before .before .before .before .before .before .before .before .before .before .before in
+    let at-pre = at-fill .before .before .before .before .before .before .before .before in
+    let (g, blank, long) = at-pre .pre in
+    let l : tie.After-raise-list = at-clear .before .before .before .before .before .before .before .before .before .before in
     let (raised, weighed, untouched, moves) = l .raise-list .ensures in (
       new-whole (omega (arith, g .few)) (faultless-proper _ _ (rises-faultless (g .rises))) refl (l .raise-list .kept .1 .1 .0) (links-blank _ blank) untouched raised,
       weighed,
-      c .before .before .before .before .before .before .clear .ensures ∙ same-room _ _ _ _ _ _ refl (l .raise-list .kept .1 .1 .1 .0 ∙ c .before .before .before .before .before .before .before .before .before .before .before .before .before .before .before .before .before .before .before .before .before .before .fill .kept .0) refl,
+      at-clear .clear .ensures ∙ same-room _ _ _ _ _ _ refl (l .raise-list .kept .1 .1 .1 .0 ∙ at-fill .fill .kept .0) refl,
       moves-differ moves,
     )
 

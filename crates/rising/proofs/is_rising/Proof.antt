@@ -50,7 +50,12 @@ loop-less : tie.Need-loop-less Inv-loop μ-loop
 loop-less c = search needs
 
 loop-again : tie.Need-loop-again Inv-loop μ-loop
-loop-again c = reading-edge (c .before .before .before .before .before .before .loop .inv) (c .before .before .before .before .before .loop-test .taken) (c .before .before .end-of .ensures) (rw (c .before .wide .ensures) at (c .if1 .left))
+loop-again c =
+    let at-wide = c .before in
+    let at-end-of = at-wide .before in
+    let at-loop-test = at-end-of .before .before .before in
+    let at-loop = at-loop-test .before in
+    reading-edge (at-loop .loop .inv) (at-loop-test .loop-test .taken) (at-end-of .end-of .ensures) (rw (at-wide .wide .ensures) at (c .if1 .left))
 
 returns-2 : tie.Need-returns-2 Inv-loop μ-loop
 returns-2 c = λ t. reading-end (c .before .loop .inv) (c .loop-test .left)

@@ -83,24 +83,34 @@ mul-weights c = search needs
 -- the lower end of the edge that the loop has come to has a weight
 weighed-here : (c : tie.After-wide Inv-loop μ-loop) → c .wide .result < length (c .before .before .before .before .before .before .loop .weights)
 weighed-here c =
-    let t = c .before .before .before .before .before .before .loop .inv in
-    let e = taking-ends (t .taking) (edges-drop _ _ (c .before .before .before .before .before .loop-test .taken)) in
-    omega (arith, c .wide .ensures, c .before .before .end-of .ensures, e .0, e .1, t .counting .long)
+    let at-end-of = c .before .before in
+    let at-loop-test = at-end-of .before .before .before in
+    let at-loop = at-loop-test .before in
+    let t = at-loop .loop .inv in
+    let e = taking-ends (t .taking) (edges-drop _ _ (at-loop-test .loop-test .taken)) in
+    omega (arith, c .wide .ensures, at-end-of .end-of .ensures, e .0, e .1, t .counting .long)
 
 slice-read-weights : tie.Need-slice-read-weights Inv-loop μ-loop
 slice-read-weights c = weighed-here (c .before)
 
 add-weights : tie.Need-add-weights Inv-loop μ-loop
-add-weights c = record { fits = counting-room (endOf false) (c .before .before .before .before .before .before .before .loop .inv .counting) _ (edges-drop _ _ (c .before .before .before .before .before .before .loop-test .taken)) }
+add-weights c =
+    let at-loop-test = c .before .before .before .before .before .before in
+    let at-loop = at-loop-test .before in
+    record { fits = counting-room (endOf false) (at-loop .loop .inv .counting) _ (edges-drop _ _ (at-loop-test .loop-test .taken)) }
 
 slice-write-weights : tie.Need-slice-write-weights Inv-loop μ-loop
 slice-write-weights c = weighed-here (c .before)
 
 climb-requires : tie.Need-climb-requires Inv-loop μ-loop
 climb-requires c κs =
-    let t = c .before .before .before .before .before .before .before .before .before .loop .inv in
-    let e = taking-ends (t .taking) (edges-drop _ _ (c .before .before .before .before .before .before .before .before .loop-test .taken)) in
-    (omega (arith, c .before .before .before .before .end-of2 .ensures, e .1, t .same), omega (arith, t .same, c .before .before .before .before .before .before .before .before .before .before .before .before .before .before .pre .0 .few), subst (λ (m : ℕ). Upward m (c .before .before .before .before .before .before .before .before .before .loop .jump)) (sym (t .same)) (t .upward))
+    let at-end-of2 = c .before .before .before .before in
+    let at-loop-test = at-end-of2 .before .before .before .before in
+    let at-loop = at-loop-test .before in
+    let at-pre = at-loop .before .before .before .before .before in
+    let t = at-loop .loop .inv in
+    let e = taking-ends (t .taking) (edges-drop _ _ (at-loop-test .loop-test .taken)) in
+    (omega (arith, at-end-of2 .end-of2 .ensures, e .1, t .same), omega (arith, t .same, at-pre .pre .0 .few), subst (λ (m : ℕ). Upward m (at-loop .loop .jump)) (sym (t .same)) (t .upward))
 
 add-i : tie.Need-add-i Inv-loop μ-loop
 add-i c = search needs
@@ -110,18 +120,24 @@ loop-less c = search needs
 
 loop-again : tie.Need-loop-again Inv-loop μ-loop
 loop-again c =
-    let t = c .before .before .before .before .before .before .before .before .before .before .before .before .before .before .loop .inv in
-    let h = c .before .before .before .before .before .before .before .before .before .before .before .before .before .loop-test .taken in
-    let (k, m) = c .before .before .before .before .climb .ensures in
+    let at-climb = c .before .before .before .before in
+    let at-wide = at-climb .before .before .before .before in
+    let at-end-of2 = at-wide .before in
+    let at-end-of = at-end-of2 .before in
+    let at-loop-test = at-end-of .before .before .before in
+    let at-loop = at-loop-test .before in
+    let t = at-loop .loop .inv in
+    let h = at-loop-test .loop-test .taken in
+    let (k, m) = at-climb .climb .ensures in
     let head = edges-drop _ _ h in
     record {
       inside = omega (arith, h);
-      same = c .before .before .before .before .climb .kept .1 .1 .0 ∙ t .same;
-      upward = subst (λ (n : ℕ). Upward n (c .before .before .before .before .climb .last .1 .1 .1 .0)) (t .same) (k .upward);
+      same = at-climb .climb .kept .1 .1 .0 ∙ t .same;
+      upward = subst (λ (n : ℕ). Upward n (at-climb .climb .last .1 .1 .1 .0)) (t .same) (k .upward);
       untouched = untouched-on (t .untouched) (k .untouched);
       moves = moves-on (t .moves) m;
-      counting = counting-turn (endOf false) (t .counting) _ head (c .before .before .before .before .before .before .before .before .wide .ensures ∙ c .before .before .before .before .before .before .before .before .before .before .end-of .ensures) (weighed-here (c .before .before .before .before .before .before .before .before));
-      taking = taking-edge (t .taking) head (c .before .before .before .before .before .before .before .before .before .before .end-of .ensures) (c .before .before .before .before .before .before .before .before .before .end-of2 .ensures) (t .same) k;
+      counting = counting-turn (endOf false) (t .counting) _ head (at-wide .wide .ensures ∙ at-end-of .end-of .ensures) (weighed-here (at-wide));
+      taking = taking-edge (t .taking) head (at-end-of .end-of .ensures) (at-end-of2 .end-of2 .ensures) (t .same) k;
     }
 
 same-length : tie.Need-same-length Inv-loop μ-loop

@@ -27,24 +27,46 @@ word-at-requires-2 : tie.Need-word-at-requires-2
 word-at-requires-2 c κs = omega (arith, sizes-known (c .before .before .before .before .load .ensures) (c .before .if1 .left) .want)
 
 array-share-prefix-order : tie.Need-array-share-prefix-order
-array-share-prefix-order c = order-fits (c .before .before .before .before .before .load .ensures) (c .before .before .if1 .left) (c .before .before .before .before .before .load .kept .1 .1 .1 .0)
+array-share-prefix-order c =
+    let at-if1 = c .before .before in
+    let at-load = at-if1 .before .before .before in
+    order-fits (at-load .load .ensures) (at-if1 .if1 .left) (at-load .load .kept .1 .1 .1 .0)
 
 slice-aggregate-divide : tie.Need-slice-aggregate-divide
-slice-aggregate-divide c = order-counted (c .before .before .before .before .before .before .load .ensures) (c .before .before .before .if1 .left) (c .before .before .before .before .before .before .load .kept .1 .1 .1 .0)
+slice-aggregate-divide c =
+    let at-if1 = c .before .before .before in
+    let at-load = at-if1 .before .before .before in
+    order-counted (at-load .load .ensures) (at-if1 .if1 .left) (at-load .load .kept .1 .1 .1 .0)
 
 array-share-prefix-edges : tie.Need-array-share-prefix-edges
-array-share-prefix-edges c = edges-fit (c .before .before .before .before .before .before .load .ensures) (c .before .before .before .if1 .left) (c .before .before .before .before .before .before .load .kept .1 .1 .1 .1 .0)
+array-share-prefix-edges c =
+    let at-if1 = c .before .before .before in
+    let at-load = at-if1 .before .before .before in
+    edges-fit (at-load .load .ensures) (at-if1 .if1 .left) (at-load .load .kept .1 .1 .1 .1 .0)
 
 slice-aggregate-divide-2 : tie.Need-slice-aggregate-divide-2
-slice-aggregate-divide-2 c = edges-counted (c .before .before .before .before .before .before .before .load .ensures) (c .before .before .before .before .if1 .left) (c .before .before .before .before .before .before .before .load .kept .1 .1 .1 .1 .0)
+slice-aggregate-divide-2 c =
+    let at-if1 = c .before .before .before .before in
+    let at-load = at-if1 .before .before .before in
+    edges-counted (at-load .load .ensures) (at-if1 .if1 .left) (at-load .load .kept .1 .1 .1 .1 .0)
 
 divide-requires : tie.Need-divide-requires
 unfolding limit blocks
-divide-requires c κs = ((parts-runnable (c .before .before .before .before .before .before .before .before .load .ensures) (c .before .before .before .before .before .if1 .left), limits-good (c .before .before .before .before .before .before .before .before .load .ensures) (c .before .before .before .before .before .if1 .left) (c .before .before .before .before .word-at .ensures) (c .before .before .before .word-at2 .ensures)), search needs)
+divide-requires c κs =
+    let at-word-at2 = c .before .before .before in
+    let at-word-at = at-word-at2 .before in
+    let at-if1 = at-word-at .before in
+    let at-load = at-if1 .before .before .before in
+    ((parts-runnable (at-load .load .ensures) (at-if1 .if1 .left), limits-good (at-load .load .ensures) (at-if1 .if1 .left) (at-word-at .word-at .ensures) (at-word-at2 .word-at2 .ensures)), search needs)
 
 returns-2 : tie.Need-returns-2
 unfolding limit blocks
-returns-2 c = ends-accepted (c .before .before .before .before .before .before .before .before .before .load .ensures) (c .before .before .before .before .before .before .if1 .left) (c .before .before .before .before .before .word-at .ensures) (c .before .before .before .before .word-at2 .ensures) (c .divide .ensures)
+returns-2 c =
+    let at-word-at2 = c .before .before .before .before in
+    let at-word-at = at-word-at2 .before in
+    let at-if1 = at-word-at .before in
+    let at-load = at-if1 .before .before .before in
+    ends-accepted (at-load .load .ensures) (at-if1 .if1 .left) (at-word-at .word-at .ensures) (at-word-at2 .word-at2 .ensures) (c .divide .ensures)
 
 pub run-spec : {M : Type 1} → statement M
 run-spec =

@@ -25,34 +25,70 @@ slice-aggregate-grow-ranked-3 : tie.Need-slice-aggregate-grow-ranked-3
 slice-aggregate-grow-ranked-3 c = part-counted vertexCapacity _ (c .before .before .before .before .before .before .pre .0 .0 .vertices)
 
 grow-ranked-requires : tie.Need-grow-ranked-requires
-grow-ranked-requires c κs = (c .before .before .before .before .before .before .pre .0 .0, grow-room (c .before .before .before .before .before .before .pre .0 .0))
+grow-ranked-requires c κs =
+    let at-pre = c .before .before .before .before .before .before in
+    (at-pre .pre .0 .0, grow-room (at-pre .pre .0 .0))
 
 array-share-prefix-ranked : tie.Need-array-share-prefix-ranked
-array-share-prefix-ranked c = front-fits endCapacity _ (ends-fit (c .before .before .before .before .before .before .before .before .before .before .pre .0 .0)) (c .before .before .before .grow-ranked .last .1 .1 .0) (c .before .before .before .grow-ranked .kept .1 .1 .0)
+array-share-prefix-ranked c =
+    let at-grow-ranked = c .before .before .before in
+    let at-pre = at-grow-ranked .before .before .before .before .before .before .before in
+    front-fits endCapacity _ (ends-fit (at-pre .pre .0 .0)) (at-grow-ranked .grow-ranked .last .1 .1 .0) (at-grow-ranked .grow-ranked .kept .1 .1 .0)
 
 slice-aggregate-report-on : tie.Need-slice-aggregate-report-on
-slice-aggregate-report-on c = front-counted endCapacity _ (ends-fit (c .before .before .before .before .before .before .before .before .before .before .before .pre .0 .0)) (c .before .before .before .before .grow-ranked .last .1 .1 .0) (c .before .before .before .before .grow-ranked .kept .1 .1 .0)
+slice-aggregate-report-on c =
+    let at-grow-ranked = c .before .before .before .before in
+    let at-pre = at-grow-ranked .before .before .before .before .before .before .before in
+    front-counted endCapacity _ (ends-fit (at-pre .pre .0 .0)) (at-grow-ranked .grow-ranked .last .1 .1 .0) (at-grow-ranked .grow-ranked .kept .1 .1 .0)
 
 array-share-prefix-parents : tie.Need-array-share-prefix-parents
-array-share-prefix-parents c = front-fits vertexCapacity _ (c .before .before .before .before .before .before .before .before .before .before .before .pre .0 .0 .vertices) (c .before .before .before .before .grow-ranked .last .1 .1 .1 .0) (c .before .before .before .before .grow-ranked .kept .1 .1 .1 .0)
+array-share-prefix-parents c =
+    let at-grow-ranked = c .before .before .before .before in
+    let at-pre = at-grow-ranked .before .before .before .before .before .before .before in
+    front-fits vertexCapacity _ (at-pre .pre .0 .0 .vertices) (at-grow-ranked .grow-ranked .last .1 .1 .1 .0) (at-grow-ranked .grow-ranked .kept .1 .1 .1 .0)
 
 slice-aggregate-report-on-2 : tie.Need-slice-aggregate-report-on-2
-slice-aggregate-report-on-2 c = front-counted vertexCapacity _ (c .before .before .before .before .before .before .before .before .before .before .before .before .pre .0 .0 .vertices) (c .before .before .before .before .before .grow-ranked .last .1 .1 .1 .0) (c .before .before .before .before .before .grow-ranked .kept .1 .1 .1 .0)
+slice-aggregate-report-on-2 c =
+    let at-grow-ranked = c .before .before .before .before .before in
+    let at-pre = at-grow-ranked .before .before .before .before .before .before .before in
+    front-counted vertexCapacity _ (at-pre .pre .0 .0 .vertices) (at-grow-ranked .grow-ranked .last .1 .1 .1 .0) (at-grow-ranked .grow-ranked .kept .1 .1 .1 .0)
 
 array-share-prefix-weights : tie.Need-array-share-prefix-weights
-array-share-prefix-weights c = front-fits vertexCapacity _ (c .before .before .before .before .before .before .before .before .before .before .before .before .pre .0 .0 .vertices) (c .before .before .before .before .before .grow-ranked .last .1 .1 .1 .1 .0) (c .before .before .before .before .before .grow-ranked .kept .1 .1 .1 .1 .0)
+array-share-prefix-weights c =
+    let at-grow-ranked = c .before .before .before .before .before in
+    let at-pre = at-grow-ranked .before .before .before .before .before .before .before in
+    front-fits vertexCapacity _ (at-pre .pre .0 .0 .vertices) (at-grow-ranked .grow-ranked .last .1 .1 .1 .1 .0) (at-grow-ranked .grow-ranked .kept .1 .1 .1 .1 .0)
 
 slice-aggregate-report-on-3 : tie.Need-slice-aggregate-report-on-3
-slice-aggregate-report-on-3 c = front-counted vertexCapacity _ (c .before .before .before .before .before .before .before .before .before .before .before .before .before .pre .0 .0 .vertices) (c .before .before .before .before .before .before .grow-ranked .last .1 .1 .1 .1 .0) (c .before .before .before .before .before .before .grow-ranked .kept .1 .1 .1 .1 .0)
+slice-aggregate-report-on-3 c =
+    let at-grow-ranked = c .before .before .before .before .before .before in
+    let at-pre = at-grow-ranked .before .before .before .before .before .before .before in
+    front-counted vertexCapacity _ (at-pre .pre .0 .0 .vertices) (at-grow-ranked .grow-ranked .last .1 .1 .1 .1 .0) (at-grow-ranked .grow-ranked .kept .1 .1 .1 .1 .0)
 
 report-on-requires : tie.Need-report-on-requires
-report-on-requires c κs = (to-report (c .before .before .before .before .before .before .before .before .before .before .before .before .before .before .pre .0 .0) (grown-again (c .before .before .before .before .before .before .before .grow-ranked .ensures) (front-is endCapacity _ (ends-fit (c .before .before .before .before .before .before .before .before .before .before .before .before .before .before .pre .0 .0)) (c .before .before .before .before .before .before .before .grow-ranked .last .1 .1 .0) (c .before .before .before .before .before .before .before .grow-ranked .kept .1 .1 .0)) (front-is vertexCapacity _ (c .before .before .before .before .before .before .before .before .before .before .before .before .before .before .pre .0 .0 .vertices) (c .before .before .before .before .before .before .before .grow-ranked .last .1 .1 .1 .0) (c .before .before .before .before .before .before .before .grow-ranked .kept .1 .1 .1 .0)) (front-is vertexCapacity _ (c .before .before .before .before .before .before .before .before .before .before .before .before .before .before .pre .0 .0 .vertices) (c .before .before .before .before .before .before .before .grow-ranked .last .1 .1 .1 .1 .0) (c .before .before .before .before .before .before .before .grow-ranked .kept .1 .1 .1 .1 .0))) (c .before .before .before .before .before .before .before .before .before .before .before .before .before .before .pre .0 .1), c .before .before .before .before .before .before .before .before .before .before .before .before .before .before .pre .1)
+report-on-requires c κs =
+    let at-grow-ranked = c .before .before .before .before .before .before .before in
+    let at-pre = at-grow-ranked .before .before .before .before .before .before .before in (
+      to-report (at-pre .pre .0 .0) (grown-again (at-grow-ranked .grow-ranked .ensures)
+          (front-is endCapacity _ (ends-fit (at-pre .pre .0 .0)) (at-grow-ranked .grow-ranked .last .1 .1 .0) (at-grow-ranked .grow-ranked .kept .1 .1 .0))
+          (front-is vertexCapacity _ (at-pre .pre .0 .0 .vertices) (at-grow-ranked .grow-ranked .last .1 .1 .1 .0) (at-grow-ranked .grow-ranked .kept .1 .1 .1 .0))
+          (front-is vertexCapacity _ (at-pre .pre .0 .0 .vertices) (at-grow-ranked .grow-ranked .last .1 .1 .1 .1 .0) (at-grow-ranked .grow-ranked .kept .1 .1 .1 .1 .0))) (at-pre .pre .0 .1),
+      at-pre .pre .1,
+    )
 
 same-length : tie.Need-same-length
 same-length c = search needs
 
 returns : tie.Need-returns
-returns c = put-ranked (c .before .before .before .before .before .before .before .before .before .before .before .before .before .before .before .before .before .pre .0 .0) (grown-again (c .before .before .before .before .before .before .before .before .before .before .grow-ranked .ensures) (front-is endCapacity _ (ends-fit (c .before .before .before .before .before .before .before .before .before .before .before .before .before .before .before .before .before .pre .0 .0)) (c .before .before .before .before .before .before .before .before .before .before .grow-ranked .last .1 .1 .0) (c .before .before .before .before .before .before .before .before .before .before .grow-ranked .kept .1 .1 .0)) (front-is vertexCapacity _ (c .before .before .before .before .before .before .before .before .before .before .before .before .before .before .before .before .before .pre .0 .0 .vertices) (c .before .before .before .before .before .before .before .before .before .before .grow-ranked .last .1 .1 .1 .0) (c .before .before .before .before .before .before .before .before .before .before .grow-ranked .kept .1 .1 .1 .0)) (front-is vertexCapacity _ (c .before .before .before .before .before .before .before .before .before .before .before .before .before .before .before .before .before .pre .0 .0 .vertices) (c .before .before .before .before .before .before .before .before .before .before .grow-ranked .last .1 .1 .1 .1 .0) (c .before .before .before .before .before .before .before .before .before .before .grow-ranked .kept .1 .1 .1 .1 .0))) _ _ (c .before .before .report-on .ensures)
+returns c =
+    let at-report-on = c .before .before in
+    let at-grow-ranked = at-report-on .before .before .before .before .before .before .before .before in
+    let at-pre = at-grow-ranked .before .before .before .before .before .before .before in
+    put-ranked (at-pre .pre .0 .0) (grown-again (at-grow-ranked .grow-ranked .ensures)
+    (front-is endCapacity _ (ends-fit (at-pre .pre .0 .0)) (at-grow-ranked .grow-ranked .last .1 .1 .0) (at-grow-ranked .grow-ranked .kept .1 .1 .0))
+    (front-is vertexCapacity _ (at-pre .pre .0 .0 .vertices) (at-grow-ranked .grow-ranked .last .1 .1 .1 .0) (at-grow-ranked .grow-ranked .kept .1 .1 .1 .0))
+    (front-is vertexCapacity _ (at-pre .pre .0 .0 .vertices) (at-grow-ranked .grow-ranked .last .1 .1 .1 .1 .0) (at-grow-ranked .grow-ranked .kept .1 .1 .1 .1 .0))) _ _
+    (at-report-on .report-on .ensures)
 
 pub divide-spec : {M : Type 1} → statement M
 divide-spec =

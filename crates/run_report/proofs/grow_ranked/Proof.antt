@@ -31,13 +31,17 @@ array-borrow-prefix-jump : tie.Need-array-borrow-prefix-jump
 array-borrow-prefix-jump c = search needs
 
 slice-aggregate-add-2 : tie.Need-slice-aggregate-add-2
-slice-aggregate-add-2 c = part-counted vertexCapacity _ (c .before .before .before .before .before .before .before .before .before .before .before .before .before .before .before .before .before .before .before .before .before .before .before .pre .0 .vertices)
+slice-aggregate-add-2 c =
+    part-counted vertexCapacity _
+    (c .before .before .before .before .before .before .before .before .before .before .before .before .before .before .before .before .before .before .before .before .before .before .before .pre .0 .vertices)
 
 array-borrow-prefix-lower : tie.Need-array-borrow-prefix-lower
 array-borrow-prefix-lower c = both-fit (c .before .before .before .before .before .before .before .before .before .before .before .before .before .before .before .before .before .before .before .before .before .before .before .pre .0)
 
 slice-aggregate-add-3 : tie.Need-slice-aggregate-add-3
-slice-aggregate-add-3 c = part-counted (vertexCapacity + edgeCapacity) _ (both-fit (c .before .before .before .before .before .before .before .before .before .before .before .before .before .before .before .before .before .before .before .before .before .before .before .before .pre .0))
+slice-aggregate-add-3 c =
+    part-counted (vertexCapacity + edgeCapacity) _ (both-fit
+    (c .before .before .before .before .before .before .before .before .before .before .before .before .before .before .before .before .before .before .before .before .before .before .before .before .pre .0))
 
 add-requires : tie.Need-add-requires
 add-requires c κs = search needs
@@ -52,7 +56,12 @@ same-length-3 : tie.Need-same-length-3
 same-length-3 c = search needs
 
 returns : tie.Need-returns
-returns c = all-grown (c .before .before .before .before .before .before .before .before .before .before .before .before .before .before .before .before .before .before .before .before .before .before .before .before .before .before .before .before .before .before .before .before .pre .0) (c .before .before .before .before .before .before .before .before .before .before .before .before .before .before .before .before .before .before .before .before .before .before .before .before .before .before .before .before .before .before .before .before .pre .1) (grow-work (c .before .before .before .before .before .before .before .before .before .before .before .before .before .before .before .before .before .before .before .before .before .before .before .before .before .before .before .before .before .before .before .before .pre .0)) (c .before .before .before .before .before .before .before .before .before .before .before .before .before .before .before .before .before .before .before .before .before .before .before .before .relabel .ensures) (c .before .before .before .before .before .before .before .before .before .before .before .before .before .before .before .before .before .before .start .ensures) (c .before .before .before .before .before .before .before .add .ensures)
+returns c =
+    let at-add = c .before .before .before .before .before .before .before in
+    let at-start = at-add .before .before .before .before .before .before .before .before .before .before .before in
+    let at-relabel = at-start .before .before .before .before .before .before in
+    let at-pre = at-relabel .before .before .before .before .before .before .before .before in
+    all-grown (at-pre .pre .0) (at-pre .pre .1) (grow-work (at-pre .pre .0)) (at-relabel .relabel .ensures) (at-start .start .ensures) (at-add .add .ensures)
 
 pub grow-ranked-spec : {M : Type 1} → statement M
 grow-ranked-spec =

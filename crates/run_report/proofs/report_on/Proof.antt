@@ -35,7 +35,10 @@ array-borrow-prefix-block-loads : tie.Need-array-borrow-prefix-block-loads
 array-borrow-prefix-block-loads c = blocks-fit _ _ (c .before .before .before .before .before .before .before .before .before .pre .0 .limits) (c .before .before .before .wide .ensures)
 
 slice-aggregate-report-4 : tie.Need-slice-aggregate-report-4
-slice-aggregate-report-4 c = part-counted maxBlocks _ (blocks-fit _ _ (c .before .before .before .before .before .before .before .before .before .before .pre .0 .limits) (c .before .before .before .before .wide .ensures))
+slice-aggregate-report-4 c =
+    let at-wide = c .before .before .before .before in
+    let at-pre = at-wide .before .before .before .before .before .before in
+    part-counted maxBlocks _ (blocks-fit _ _ (at-pre .pre .0 .limits) (at-wide .wide .ensures))
 
 array-borrow-prefix-edge-blocks : tie.Need-array-borrow-prefix-edge-blocks
 array-borrow-prefix-edge-blocks c = half-fits (c .before .before .before .before .before .before .before .before .before .before .pre .0)
@@ -95,37 +98,81 @@ report-requires : tie.Need-report-requires
 report-requires c κs = search needs
 
 array-share-prefix-reach : tie.Need-array-share-prefix-reach
-array-share-prefix-reach c = front-fits vertexCapacity _ (c .before .before .before .before .before .before .before .before .before .before .before .before .before .before .before .before .before .before .before .before .before .before .before .before .before .before .before .before .before .before .before .before .before .pre .0 .vertices) (c .before .before .before .before .before .before .before .before .before .before .before .before .before .report .last .1 .1 .1 .1 .1 .1 .1 .1 .1 .1 .0) (c .before .before .before .before .before .before .before .before .before .before .before .before .before .report .kept .1 .1 .1 .1 .1 .1 .1 .1 .1 .1 .0)
+array-share-prefix-reach c =
+    let at-report = c .before .before .before .before .before .before .before .before .before .before .before .before .before in
+    let at-pre = at-report .before .before .before .before .before .before .before .before .before .before .before .before .before .before .before .before .before .before .before .before in
+    front-fits vertexCapacity _ (at-pre .pre .0 .vertices) (at-report .report .last .1 .1 .1 .1 .1 .1 .1 .1 .1 .1 .0) (at-report .report .kept .1 .1 .1 .1 .1 .1 .1 .1 .1 .1 .0)
 
 slice-aggregate-put-answer : tie.Need-slice-aggregate-put-answer
-slice-aggregate-put-answer c = front-counted vertexCapacity _ (c .before .before .before .before .before .before .before .before .before .before .before .before .before .before .before .before .before .before .before .before .before .before .before .before .before .before .before .before .before .before .before .before .before .before .pre .0 .vertices) (c .before .before .before .before .before .before .before .before .before .before .before .before .before .before .report .last .1 .1 .1 .1 .1 .1 .1 .1 .1 .1 .0) (c .before .before .before .before .before .before .before .before .before .before .before .before .before .before .report .kept .1 .1 .1 .1 .1 .1 .1 .1 .1 .1 .0)
+slice-aggregate-put-answer c =
+    let at-report = c .before .before .before .before .before .before .before .before .before .before .before .before .before .before in
+    let at-pre = at-report .before .before .before .before .before .before .before .before .before .before .before .before .before .before .before .before .before .before .before .before in
+    front-counted vertexCapacity _ (at-pre .pre .0 .vertices) (at-report .report .last .1 .1 .1 .1 .1 .1 .1 .1 .1 .1 .0) (at-report .report .kept .1 .1 .1 .1 .1 .1 .1 .1 .1 .1 .0)
 
 array-share-prefix-top : tie.Need-array-share-prefix-top
-array-share-prefix-top c = front-fits vertexCapacity _ (c .before .before .before .before .before .before .before .before .before .before .before .before .before .before .before .before .before .before .before .before .before .before .before .before .before .before .before .before .before .before .before .before .before .before .pre .0 .vertices) (c .before .before .before .before .before .before .before .before .before .before .before .before .before .before .report .last .1 .1 .1 .1 .1 .1 .0) (c .before .before .before .before .before .before .before .before .before .before .before .before .before .before .report .kept .1 .1 .1 .1 .1 .1 .0)
+array-share-prefix-top c =
+    let at-report = c .before .before .before .before .before .before .before .before .before .before .before .before .before .before in
+    let at-pre = at-report .before .before .before .before .before .before .before .before .before .before .before .before .before .before .before .before .before .before .before .before in
+    front-fits vertexCapacity _ (at-pre .pre .0 .vertices) (at-report .report .last .1 .1 .1 .1 .1 .1 .0) (at-report .report .kept .1 .1 .1 .1 .1 .1 .0)
 
 slice-aggregate-put-answer-2 : tie.Need-slice-aggregate-put-answer-2
-slice-aggregate-put-answer-2 c = front-counted vertexCapacity _ (c .before .before .before .before .before .before .before .before .before .before .before .before .before .before .before .before .before .before .before .before .before .before .before .before .before .before .before .before .before .before .before .before .before .before .before .pre .0 .vertices) (c .before .before .before .before .before .before .before .before .before .before .before .before .before .before .before .report .last .1 .1 .1 .1 .1 .1 .0) (c .before .before .before .before .before .before .before .before .before .before .before .before .before .before .before .report .kept .1 .1 .1 .1 .1 .1 .0)
+slice-aggregate-put-answer-2 c =
+    let at-report = c .before .before .before .before .before .before .before .before .before .before .before .before .before .before .before in
+    let at-pre = at-report .before .before .before .before .before .before .before .before .before .before .before .before .before .before .before .before .before .before .before .before in
+    front-counted vertexCapacity _ (at-pre .pre .0 .vertices) (at-report .report .last .1 .1 .1 .1 .1 .1 .0) (at-report .report .kept .1 .1 .1 .1 .1 .1 .0)
 
 array-share-prefix-block : tie.Need-array-share-prefix-block
-array-share-prefix-block c = front-fits vertexCapacity _ (c .before .before .before .before .before .before .before .before .before .before .before .before .before .before .before .before .before .before .before .before .before .before .before .before .before .before .before .before .before .before .before .before .before .before .before .pre .0 .vertices) (c .before .before .before .before .before .before .before .before .before .before .before .before .before .before .before .report .last .1 .1 .1 .1 .1 .1 .1 .0) (c .before .before .before .before .before .before .before .before .before .before .before .before .before .before .before .report .kept .1 .1 .1 .1 .1 .1 .1 .0)
+array-share-prefix-block c =
+    let at-report = c .before .before .before .before .before .before .before .before .before .before .before .before .before .before .before in
+    let at-pre = at-report .before .before .before .before .before .before .before .before .before .before .before .before .before .before .before .before .before .before .before .before in
+    front-fits vertexCapacity _ (at-pre .pre .0 .vertices) (at-report .report .last .1 .1 .1 .1 .1 .1 .1 .0) (at-report .report .kept .1 .1 .1 .1 .1 .1 .1 .0)
 
 slice-aggregate-put-answer-3 : tie.Need-slice-aggregate-put-answer-3
-slice-aggregate-put-answer-3 c = front-counted vertexCapacity _ (c .before .before .before .before .before .before .before .before .before .before .before .before .before .before .before .before .before .before .before .before .before .before .before .before .before .before .before .before .before .before .before .before .before .before .before .before .pre .0 .vertices) (c .before .before .before .before .before .before .before .before .before .before .before .before .before .before .before .before .report .last .1 .1 .1 .1 .1 .1 .1 .0) (c .before .before .before .before .before .before .before .before .before .before .before .before .before .before .before .before .report .kept .1 .1 .1 .1 .1 .1 .1 .0)
+slice-aggregate-put-answer-3 c =
+    let at-report = c .before .before .before .before .before .before .before .before .before .before .before .before .before .before .before .before in
+    let at-pre = at-report .before .before .before .before .before .before .before .before .before .before .before .before .before .before .before .before .before .before .before .before in
+    front-counted vertexCapacity _ (at-pre .pre .0 .vertices) (at-report .report .last .1 .1 .1 .1 .1 .1 .1 .0) (at-report .report .kept .1 .1 .1 .1 .1 .1 .1 .0)
 
 array-share-prefix-block-count : tie.Need-array-share-prefix-block-count
-array-share-prefix-block-count c = front-fits vertexCapacity _ (c .before .before .before .before .before .before .before .before .before .before .before .before .before .before .before .before .before .before .before .before .before .before .before .before .before .before .before .before .before .before .before .before .before .before .before .before .pre .0 .vertices) (c .before .before .before .before .before .before .before .before .before .before .before .before .before .before .before .before .report .last .1 .1 .1 .1 .1 .1 .1 .1 .1 .1 .1 .0) (c .before .before .before .before .before .before .before .before .before .before .before .before .before .before .before .before .report .kept .1 .1 .1 .1 .1 .1 .1 .1 .1 .1 .1 .0)
+array-share-prefix-block-count c =
+    let at-report = c .before .before .before .before .before .before .before .before .before .before .before .before .before .before .before .before in
+    let at-pre = at-report .before .before .before .before .before .before .before .before .before .before .before .before .before .before .before .before .before .before .before .before in
+    front-fits vertexCapacity _ (at-pre .pre .0 .vertices) (at-report .report .last .1 .1 .1 .1 .1 .1 .1 .1 .1 .1 .1 .0) (at-report .report .kept .1 .1 .1 .1 .1 .1 .1 .1 .1 .1 .1 .0)
 
 slice-aggregate-put-answer-4 : tie.Need-slice-aggregate-put-answer-4
-slice-aggregate-put-answer-4 c = front-counted vertexCapacity _ (c .before .before .before .before .before .before .before .before .before .before .before .before .before .before .before .before .before .before .before .before .before .before .before .before .before .before .before .before .before .before .before .before .before .before .before .before .before .pre .0 .vertices) (c .before .before .before .before .before .before .before .before .before .before .before .before .before .before .before .before .before .report .last .1 .1 .1 .1 .1 .1 .1 .1 .1 .1 .1 .0) (c .before .before .before .before .before .before .before .before .before .before .before .before .before .before .before .before .before .report .kept .1 .1 .1 .1 .1 .1 .1 .1 .1 .1 .1 .0)
+slice-aggregate-put-answer-4 c =
+    let at-report = c .before .before .before .before .before .before .before .before .before .before .before .before .before .before .before .before .before in
+    let at-pre = at-report .before .before .before .before .before .before .before .before .before .before .before .before .before .before .before .before .before .before .before .before in
+    front-counted vertexCapacity _ (at-pre .pre .0 .vertices) (at-report .report .last .1 .1 .1 .1 .1 .1 .1 .1 .1 .1 .1 .0) (at-report .report .kept .1 .1 .1 .1 .1 .1 .1 .1 .1 .1 .1 .0)
 
 put-answer-requires : tie.Need-put-answer-requires
-put-answer-requires c κs = (columns (c .before .before .before .before .before .before .before .before .before .before .before .before .before .before .before .before .before .before .before .before .before .before .before .before .before .before .before .before .before .before .before .before .before .before .before .before .before .before .pre .0) (front-length vertexCapacity _ (c .before .before .before .before .before .before .before .before .before .before .before .before .before .before .before .before .before .before .before .before .before .before .before .before .before .before .before .before .before .before .before .before .before .before .before .before .before .before .pre .0 .vertices) (c .before .before .before .before .before .before .before .before .before .before .before .before .before .before .before .before .before .before .report .last .1 .1 .1 .1 .1 .1 .1 .1 .1 .1 .0) (c .before .before .before .before .before .before .before .before .before .before .before .before .before .before .before .before .before .before .report .kept .1 .1 .1 .1 .1 .1 .1 .1 .1 .1 .0)) (front-length vertexCapacity _ (c .before .before .before .before .before .before .before .before .before .before .before .before .before .before .before .before .before .before .before .before .before .before .before .before .before .before .before .before .before .before .before .before .before .before .before .before .before .before .pre .0 .vertices) (c .before .before .before .before .before .before .before .before .before .before .before .before .before .before .before .before .before .before .report .last .1 .1 .1 .1 .1 .1 .0) (c .before .before .before .before .before .before .before .before .before .before .before .before .before .before .before .before .before .before .report .kept .1 .1 .1 .1 .1 .1 .0)) (front-length vertexCapacity _ (c .before .before .before .before .before .before .before .before .before .before .before .before .before .before .before .before .before .before .before .before .before .before .before .before .before .before .before .before .before .before .before .before .before .before .before .before .before .before .pre .0 .vertices) (c .before .before .before .before .before .before .before .before .before .before .before .before .before .before .before .before .before .before .report .last .1 .1 .1 .1 .1 .1 .1 .0) (c .before .before .before .before .before .before .before .before .before .before .before .before .before .before .before .before .before .before .report .kept .1 .1 .1 .1 .1 .1 .1 .0)) (front-length vertexCapacity _ (c .before .before .before .before .before .before .before .before .before .before .before .before .before .before .before .before .before .before .before .before .before .before .before .before .before .before .before .before .before .before .before .before .before .before .before .before .before .before .pre .0 .vertices) (c .before .before .before .before .before .before .before .before .before .before .before .before .before .before .before .before .before .before .report .last .1 .1 .1 .1 .1 .1 .1 .1 .1 .1 .1 .0) (c .before .before .before .before .before .before .before .before .before .before .before .before .before .before .before .before .before .before .report .kept .1 .1 .1 .1 .1 .1 .1 .1 .1 .1 .1 .0)), text-room (c .before .before .before .before .before .before .before .before .before .before .before .before .before .before .before .before .before .before .before .before .before .before .before .before .before .before .before .before .before .before .before .before .before .before .before .before .before .before .pre .0) _ (c .before .before .before .before .before .before .before .before .before .before .before .before .before .before .before .before .before .before .before .before .before .before .before .before .before .before .before .before .before .before .before .before .before .before .before .before .before .before .pre .1))
+put-answer-requires c κs =
+    let at-report = c .before .before .before .before .before .before .before .before .before .before .before .before .before .before .before .before .before .before in
+    let at-pre = at-report .before .before .before .before .before .before .before .before .before .before .before .before .before .before .before .before .before .before .before .before in (
+      columns (at-pre .pre .0)
+          (front-length vertexCapacity _ (at-pre .pre .0 .vertices) (at-report .report .last .1 .1 .1 .1 .1 .1 .1 .1 .1 .1 .0) (at-report .report .kept .1 .1 .1 .1 .1 .1 .1 .1 .1 .1 .0))
+          (front-length vertexCapacity _ (at-pre .pre .0 .vertices) (at-report .report .last .1 .1 .1 .1 .1 .1 .0) (at-report .report .kept .1 .1 .1 .1 .1 .1 .0))
+          (front-length vertexCapacity _ (at-pre .pre .0 .vertices) (at-report .report .last .1 .1 .1 .1 .1 .1 .1 .0) (at-report .report .kept .1 .1 .1 .1 .1 .1 .1 .0))
+          (front-length vertexCapacity _ (at-pre .pre .0 .vertices) (at-report .report .last .1 .1 .1 .1 .1 .1 .1 .1 .1 .1 .1 .0) (at-report .report .kept .1 .1 .1 .1 .1 .1 .1 .1 .1 .1 .1 .0)),
+      text-room
+          (at-pre .pre .0) _ (at-pre .pre .1),
+    )
 
 same-length : tie.Need-same-length
 same-length c = search needs
 
 returns : tie.Need-returns
-returns c = put-prints (c .before .before .before .before .before .before .before .before .before .before .before .before .before .before .before .before .before .before .before .before .before .before .before .before .before .before .before .before .before .before .before .before .before .before .before .before .before .before .before .before .before .pre .0) (report-room (c .before .before .before .before .before .before .before .before .before .before .before .before .before .before .before .before .before .before .before .before .before .before .before .before .before .before .before .before .before .before .before .before .before .before .before .before .before .before .before .before .before .pre .0) (c .before .before .before .before .before .before .before .before .before .before .before .before .before .before .before .before .before .before .before .before .before .before .before .before .before .before .before .before .before .before .before .before .before .before .before .wide .ensures)) (c .before .before .before .before .before .before .before .before .before .before .before .before .before .before .before .before .before .before .before .before .before .report .ensures) (front-is vertexCapacity _ (c .before .before .before .before .before .before .before .before .before .before .before .before .before .before .before .before .before .before .before .before .before .before .before .before .before .before .before .before .before .before .before .before .before .before .before .before .before .before .before .before .before .pre .0 .vertices) (c .before .before .before .before .before .before .before .before .before .before .before .before .before .before .before .before .before .before .before .before .before .report .last .1 .1 .1 .1 .1 .1 .1 .1 .1 .1 .0) (c .before .before .before .before .before .before .before .before .before .before .before .before .before .before .before .before .before .before .before .before .before .report .kept .1 .1 .1 .1 .1 .1 .1 .1 .1 .1 .0)) (front-is vertexCapacity _ (c .before .before .before .before .before .before .before .before .before .before .before .before .before .before .before .before .before .before .before .before .before .before .before .before .before .before .before .before .before .before .before .before .before .before .before .before .before .before .before .before .before .pre .0 .vertices) (c .before .before .before .before .before .before .before .before .before .before .before .before .before .before .before .before .before .before .before .before .before .report .last .1 .1 .1 .1 .1 .1 .0) (c .before .before .before .before .before .before .before .before .before .before .before .before .before .before .before .before .before .before .before .before .before .report .kept .1 .1 .1 .1 .1 .1 .0)) (front-is vertexCapacity _ (c .before .before .before .before .before .before .before .before .before .before .before .before .before .before .before .before .before .before .before .before .before .before .before .before .before .before .before .before .before .before .before .before .before .before .before .before .before .before .before .before .before .pre .0 .vertices) (c .before .before .before .before .before .before .before .before .before .before .before .before .before .before .before .before .before .before .before .before .before .report .last .1 .1 .1 .1 .1 .1 .1 .0) (c .before .before .before .before .before .before .before .before .before .before .before .before .before .before .before .before .before .before .before .before .before .report .kept .1 .1 .1 .1 .1 .1 .1 .0)) (front-is vertexCapacity _ (c .before .before .before .before .before .before .before .before .before .before .before .before .before .before .before .before .before .before .before .before .before .before .before .before .before .before .before .before .before .before .before .before .before .before .before .before .before .before .before .before .before .pre .0 .vertices) (c .before .before .before .before .before .before .before .before .before .before .before .before .before .before .before .before .before .before .before .before .before .report .last .1 .1 .1 .1 .1 .1 .1 .1 .1 .1 .1 .0) (c .before .before .before .before .before .before .before .before .before .before .before .before .before .before .before .before .before .before .before .before .before .report .kept .1 .1 .1 .1 .1 .1 .1 .1 .1 .1 .1 .0)) (c .before .before .put-answer .ensures)
+returns c =
+    let at-put-answer = c .before .before in
+    let at-report = at-put-answer .before .before .before .before .before .before .before .before .before .before .before .before .before .before .before .before .before .before .before in
+    let at-wide = at-report .before .before .before .before .before .before .before .before .before .before .before .before .before .before in
+    let at-pre = at-wide .before .before .before .before .before .before in
+    put-prints (at-pre .pre .0) (report-room (at-pre .pre .0) (at-wide .wide .ensures)) (at-report .report .ensures)
+    (front-is vertexCapacity _ (at-pre .pre .0 .vertices) (at-report .report .last .1 .1 .1 .1 .1 .1 .1 .1 .1 .1 .0) (at-report .report .kept .1 .1 .1 .1 .1 .1 .1 .1 .1 .1 .0))
+    (front-is vertexCapacity _ (at-pre .pre .0 .vertices) (at-report .report .last .1 .1 .1 .1 .1 .1 .0) (at-report .report .kept .1 .1 .1 .1 .1 .1 .0))
+    (front-is vertexCapacity _ (at-pre .pre .0 .vertices) (at-report .report .last .1 .1 .1 .1 .1 .1 .1 .0) (at-report .report .kept .1 .1 .1 .1 .1 .1 .1 .0))
+    (front-is vertexCapacity _ (at-pre .pre .0 .vertices) (at-report .report .last .1 .1 .1 .1 .1 .1 .1 .1 .1 .1 .1 .0) (at-report .report .kept .1 .1 .1 .1 .1 .1 .1 .1 .1 .1 .1 .0))
+    (at-put-answer .put-answer .ensures)
 
 pub report-on-spec : {M : Type 1} → statement M
 report-on-spec =

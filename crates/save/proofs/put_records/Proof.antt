@@ -46,11 +46,15 @@ loop-less : tie.Need-loop-less Inv-loop μ-loop
 loop-less c = search needs
 
 loop-again : tie.Need-loop-again Inv-loop μ-loop
-loop-again c = (
-  search needs,
-  search needs,
-  save-turn _ _ _ _ _ (c .before .before .before .before .before .before .before .before .before .before .before .pre .0) (c .before .before .before .before .before .before .before .loop .inv .1) (c .before .before .before .before .before .before .loop-test .taken) (c .before .before .put-record .ensures) ∙ c .before .before .before .before .before .before .before .loop .inv .2,
-)
+loop-again c =
+    let at-put-record = c .before .before in
+    let at-loop-test = at-put-record .before .before .before .before in
+    let at-loop = at-loop-test .before in
+    let at-pre = at-loop .before .before .before .before in (
+      search needs,
+      search needs,
+      save-turn _ _ _ _ _ (at-pre .pre .0) (at-loop .loop .inv .1) (at-loop-test .loop-test .taken) (at-put-record .put-record .ensures) ∙ at-loop .loop .inv .2,
+    )
 
 same-length : tie.Need-same-length Inv-loop μ-loop
 same-length c = search needs

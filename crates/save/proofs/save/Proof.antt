@@ -22,7 +22,11 @@ same-length c = search needs
 
 returns-2 : tie.Need-returns-2
 unfolding saveOutcome verdict
-returns-2 c = ends-accepted _ _ _ _ refl (sym (c .before .before .before .before .before .save-refusal .ensures) ∙ c .before .before .before .before .if1 .left) (c .before .before .put-records .ensures)
+returns-2 c =
+    let at-put-records = c .before .before in
+    let at-if1 = at-put-records .before .before in
+    let at-save-refusal = at-if1 .before in
+    ends-accepted _ _ _ _ refl (sym (at-save-refusal .save-refusal .ensures) ∙ at-if1 .if1 .left) (at-put-records .put-records .ensures)
 
 pub save-spec : {M : Type 1} → statement M
 save-spec =

@@ -34,11 +34,27 @@ is-damaged-requires c κs = good-count _ (sym (c .before .before .before .before
 
 returns-4 : tie.Need-returns-4
 unfolding saveRefusal first given wrongLength damaged
-returns-4 c = simp (sym (c .before .before .before .before .before .before .bad-count .ensures) ∙ c .before .before .before .before .before .if1 .left, eq-eqb _ _ (c .before .before .before .before .if2 .left), eq-eqb _ _ (c .before .before .before .if3 .left), sym (c .before .is-damaged .ensures ∙ ap (damagedBy (c .before .before .before .before .before .before .before .before .before .args .parents .now)) (c .before .before .of .ensures)) ∙ c .if4 .taken)
+returns-4 c =
+    let at-is-damaged = c .before in
+    let at-of = at-is-damaged .before in
+    let at-if3 = at-of .before in
+    let at-if2 = at-if3 .before in
+    let at-if1 = at-if2 .before in
+    let at-bad-count = at-if1 .before in
+    let at-args = at-bad-count .before .before .before in
+    simp (sym (at-bad-count .bad-count .ensures) ∙ at-if1 .if1 .left, eq-eqb _ _ (at-if2 .if2 .left), eq-eqb _ _ (at-if3 .if3 .left), sym (at-is-damaged .is-damaged .ensures ∙ ap (damagedBy (at-args .args .parents .now)) (at-of .of .ensures)) ∙ c .if4 .taken)
 
 returns-5 : tie.Need-returns-5
 unfolding saveRefusal first given wrongLength damaged
-returns-5 c = simp (sym (c .before .before .before .before .before .before .bad-count .ensures) ∙ c .before .before .before .before .before .if1 .left, eq-eqb _ _ (c .before .before .before .before .if2 .left), eq-eqb _ _ (c .before .before .before .if3 .left), sym (c .before .is-damaged .ensures ∙ ap (damagedBy (c .before .before .before .before .before .before .before .before .before .args .parents .now)) (c .before .before .of .ensures)) ∙ c .if4 .left)
+returns-5 c =
+    let at-is-damaged = c .before in
+    let at-of = at-is-damaged .before in
+    let at-if3 = at-of .before in
+    let at-if2 = at-if3 .before in
+    let at-if1 = at-if2 .before in
+    let at-bad-count = at-if1 .before in
+    let at-args = at-bad-count .before .before .before in
+    simp (sym (at-bad-count .bad-count .ensures) ∙ at-if1 .if1 .left, eq-eqb _ _ (at-if2 .if2 .left), eq-eqb _ _ (at-if3 .if3 .left), sym (at-is-damaged .is-damaged .ensures ∙ ap (damagedBy (at-args .args .parents .now)) (at-of .of .ensures)) ∙ c .if4 .left)
 
 pub save-refusal-spec : {M : Type 1} → statement M
 save-refusal-spec =

@@ -18,14 +18,25 @@ wrong-compared-requires : tie.Need-wrong-compared-requires
 wrong-compared-requires c κs = search needs
 
 separate-early-requires : tie.Need-separate-early-requires
-separate-early-requires c κs = λ h. lengths-right _ _ _ (sym (wrong-lengths (c .before .before .before .before .before .before .before .before .before .before .args .parents .now) (c .before .before .before .before .before .before .before .before .before .before .args .weights .now) (c .before .before .before .before .before .before .before .before .before .before .args .edges .now) (c .before .before .before .before .before .before .before .before .before .before .args .separator .now) (c .before .before .before .before .before .before .before .before .before .before .args .compared-parents .now) (c .before .before .before .before .before .before .before .before .before .before .args .compared-weights .now) (c .before .before .before .before .before .before .before .before .before .before .args .ends .now) (c .before .before .before .before .before .before .before .before .before .before .args .jump .now) (c .before .before .before .before .before .before .before .before .before .before .args .lower .now) (c .wrong-compared .ensures)) ∙ h) .weights
+separate-early-requires c κs =
+    let at-args = c .before .before .before .before .before .before .before .before .before .before in
+    λ h. lengths-right _ _ _ (sym (wrong-lengths (at-args .args .parents .now) (at-args .args .weights .now) (at-args .args .edges .now) (at-args .args .separator .now)
+    (at-args .args .compared-parents .now) (at-args .args .compared-weights .now) (at-args .args .ends .now) (at-args .args .jump .now) (at-args .args .lower .now) (c .wrong-compared .ensures))
+    ∙ h) .weights
 
 returns : tie.Need-returns
 unfolding verdict
 returns c = ends-early _ _ _ _ _ (c .before .separate-early .ensures) (wrong-lengths _ _ _ _ _ _ _ _ _ (c .before .before .wrong-compared .ensures)) (c .if1 .taken)
 
 is-own-requires : tie.Need-is-own-requires
-is-own-requires c κs = ready _ _ _ _ (separateTables (c .before .before .before .before .before .before .before .before .before .before .before .before .before .before .before .before .before .args .separator .now) (net (c .before .before .before .before .before .before .before .before .before .before .before .before .before .before .before .before .before .args .compared-parents .now) (c .before .before .before .before .before .before .before .before .before .before .before .before .before .before .before .before .before .args .compared-weights .now)) (workOf (c .before .before .before .before .before .before .before .before .before .before .before .before .before .before .before .before .before .args .ends .now) (c .before .before .before .before .before .before .before .before .before .before .before .before .before .before .before .before .before .args .jump .now) (c .before .before .before .before .before .before .before .before .before .before .before .before .before .before .before .before .before .args .lower .now))) (sym (c .before .before .before .before .before .before .separate-early .ensures ∙ ap (separateEarly _ _ _ _) (wrong-lengths _ _ _ _ _ _ _ _ _ (c .before .before .before .before .before .before .before .wrong-compared .ensures))) ∙ c .before .before .before .before .before .if1 .left) .tells
+is-own-requires c κs =
+    let at-if1 = c .before .before .before .before .before in
+    let at-separate-early = at-if1 .before in
+    let at-wrong-compared = at-separate-early .before in
+    let at-args = at-wrong-compared .before .before .before .before .before .before .before .before .before .before in
+    ready _ _ _ _ (separateTables (at-args .args .separator .now) (net (at-args .args .compared-parents .now) (at-args .args .compared-weights .now))
+    (workOf (at-args .args .ends .now) (at-args .args .jump .now) (at-args .args .lower .now))) (sym
+    (at-separate-early .separate-early .ensures ∙ ap (separateEarly _ _ _ _) (wrong-lengths _ _ _ _ _ _ _ _ _ (at-wrong-compared .wrong-compared .ensures))) ∙ at-if1 .if1 .left) .tells
 
 same-length : tie.Need-same-length
 same-length c = search needs
@@ -44,10 +55,23 @@ same-length-5 c = search needs
 
 returns-2 : tie.Need-returns-2
 unfolding verdict
-returns-2 c = ends-late _ _ _ _ _ (sym (c .before .before .before .before .before .before .before .before .before .before .before .before .before .before .before .before .before .before .separate-early .ensures ∙ ap (separateEarly _ _ _ _) (wrong-lengths _ _ _ _ _ _ _ _ _ (c .before .before .before .before .before .before .before .before .before .before .before .before .before .before .before .before .before .before .before .wrong-compared .ensures))) ∙ c .before .before .before .before .before .before .before .before .before .before .before .before .before .before .before .before .before .if1 .left) (c .before .before .before .before .before .before .before .before .before .before .before .is-own .ensures) (not-true _ (c .if2 .taken))
+returns-2 c =
+    let at-is-own = c .before .before .before .before .before .before .before .before .before .before .before in
+    let at-if1 = at-is-own .before .before .before .before .before .before in
+    let at-separate-early = at-if1 .before in
+    let at-wrong-compared = at-separate-early .before in
+    ends-late _ _ _ _ _ (sym (at-separate-early .separate-early .ensures ∙ ap (separateEarly _ _ _ _) (wrong-lengths _ _ _ _ _ _ _ _ _ (at-wrong-compared .wrong-compared .ensures))) ∙ at-if1 .if1 .left) (at-is-own .is-own .ensures) (not-true _ (c .if2 .taken))
 
 list-common-requires : tie.Need-list-common-requires
-list-common-requires c κs = let r = ready _ _ _ _ (separateTables (c .before .before .before .before .before .before .before .before .before .before .before .before .before .before .before .before .before .before .before .before .before .before .before .before .before .before .before .before .before .before .args .separator .now) (net (c .before .before .before .before .before .before .before .before .before .before .before .before .before .before .before .before .before .before .before .before .before .before .before .before .before .before .before .before .before .before .args .compared-parents .now) (c .before .before .before .before .before .before .before .before .before .before .before .before .before .before .before .before .before .before .before .before .before .before .before .before .before .before .before .before .before .before .args .compared-weights .now)) (workOf (c .before .before .before .before .before .before .before .before .before .before .before .before .before .before .before .before .before .before .before .before .before .before .before .before .before .before .before .before .before .before .args .ends .now) (c .before .before .before .before .before .before .before .before .before .before .before .before .before .before .before .before .before .before .before .before .before .before .before .before .before .before .before .before .before .before .args .jump .now) (c .before .before .before .before .before .before .before .before .before .before .before .before .before .before .before .before .before .before .before .before .before .before .before .before .before .before .before .before .before .before .args .lower .now))) (sym (c .before .before .before .before .before .before .before .before .before .before .before .before .before .before .before .before .before .before .before .separate-early .ensures ∙ ap (separateEarly _ _ _ _) (wrong-lengths _ _ _ _ _ _ _ _ _ (c .before .before .before .before .before .before .before .before .before .before .before .before .before .before .before .before .before .before .before .before .wrong-compared .ensures))) ∙ c .before .before .before .before .before .before .before .before .before .before .before .before .before .before .before .before .before .before .if1 .left) in (r .walkable, r .one, r .other, r .lengths .listed)
+list-common-requires c κs =
+    let at-if1 = c .before .before .before .before .before .before .before .before .before .before .before .before .before .before .before .before .before .before in
+    let at-separate-early = at-if1 .before in
+    let at-wrong-compared = at-separate-early .before in
+    let at-args = at-wrong-compared .before .before .before .before .before .before .before .before .before .before in
+    let r = ready _ _ _ _ (separateTables (at-args .args .separator .now) (net (at-args .args .compared-parents .now) (at-args .args .compared-weights .now))
+    (workOf (at-args .args .ends .now) (at-args .args .jump .now) (at-args .args .lower .now))) (sym
+    (at-separate-early .separate-early .ensures ∙ ap (separateEarly _ _ _ _) (wrong-lengths _ _ _ _ _ _ _ _ _ (at-wrong-compared .wrong-compared .ensures))) ∙ at-if1 .if1 .left) in
+    (r .walkable, r .one, r .other, r .lengths .listed)
 
 same-length-6 : tie.Need-same-length-6
 same-length-6 c = search needs
@@ -68,7 +92,16 @@ same-length-11 : tie.Need-same-length-11
 same-length-11 c = search needs
 
 returns-3 : tie.Need-returns-3
-returns-3 c = ends-listed _ _ _ _ _ (sym (c .before .before .before .before .before .before .before .before .before .before .before .before .before .before .before .before .before .before .before .before .before .before .separate-early .ensures ∙ ap (separateEarly _ _ _ _) (wrong-lengths _ _ _ _ _ _ _ _ _ (c .before .before .before .before .before .before .before .before .before .before .before .before .before .before .before .before .before .before .before .before .before .before .before .wrong-compared .ensures))) ∙ c .before .before .before .before .before .before .before .before .before .before .before .before .before .before .before .before .before .before .before .before .before .if1 .left) (c .before .before .before .before .before .before .before .before .before .before .before .before .before .before .before .is-own .ensures) (not-false _ (c .before .before .before .before .if2 .left)) (c .before .before .list-common .ensures)
+returns-3 c =
+    let at-list-common = c .before .before in
+    let at-if2 = at-list-common .before .before in
+    let at-is-own = at-if2 .before .before .before .before .before .before .before .before .before .before .before in
+    let at-if1 = at-is-own .before .before .before .before .before .before in
+    let at-separate-early = at-if1 .before in
+    let at-wrong-compared = at-separate-early .before in
+    ends-listed _ _ _ _ _
+    (sym (at-separate-early .separate-early .ensures ∙ ap (separateEarly _ _ _ _) (wrong-lengths _ _ _ _ _ _ _ _ _ (at-wrong-compared .wrong-compared .ensures))) ∙ at-if1 .if1 .left)
+    (at-is-own .is-own .ensures) (not-false _ (at-if2 .if2 .left)) (at-list-common .list-common .ensures)
 
 pub separate-spec : {M : Type 1} → statement M
 separate-spec =

@@ -36,8 +36,13 @@ same-length-4 c = search needs
 returns-2 : tie.Need-returns-2
 unfolding verdict startOutcome
 returns-2 c =
-    let z = sym (c .before .before .before .before .before .before .before .before .before .start-refusal .ensures) ∙ c .before .before .before .before .before .before .before .before .if1 .left in
-    ends-accepted _ _ _ _ refl z (start-ends (c .before .before .before .before .before .before .before .before .before .before .before .before .before .before .args .parents .now) (c .before .before .before .before .before .before .before .before .before .before .before .before .before .before .args .weights .now) (startable _ z .long) (c .before .before .before .before .before .before .fill .ensures) (c .before .before .fill2 .ensures))
+    let at-fill2 = c .before .before in
+    let at-fill = at-fill2 .before .before .before .before in
+    let at-if1 = at-fill .before .before in
+    let at-start-refusal = at-if1 .before in
+    let at-args = at-start-refusal .before .before .before .before .before in
+    let z = sym (at-start-refusal .start-refusal .ensures) ∙ at-if1 .if1 .left in
+    ends-accepted _ _ _ _ refl z (start-ends (at-args .args .parents .now) (at-args .args .weights .now) (startable _ z .long) (at-fill .fill .ensures) (at-fill2 .fill2 .ensures))
 
 pub start-spec : {M : Type 1} → statement M
 start-spec =

@@ -26,10 +26,17 @@ shared-slice-read-meet-own : tie.Need-shared-slice-read-meet-own Inv-loop μ-loo
 shared-slice-read-meet-own c = search needs
 
 meet-own-requires : tie.Need-meet-own-requires Inv-loop μ-loop
-meet-own-requires c κs = (omega (arith, c .before .before .before .before .before .before .pre .blocks (c .before .before .wide .result) (omega (arith, c .before .before .wide .ensures, c .before .before .before .before .before .before .pre .inside)), c .before .before .before .before .before .before .pre .all), c .before .before .before .before .before .before .pre .fresh)
+meet-own-requires c κs =
+    let at-wide = c .before .before in
+    let at-pre = at-wide .before .before .before .before in
+    (omega (arith, at-pre .pre .blocks (at-wide .wide .result) (omega (arith, at-wide .wide .ensures, at-pre .pre .inside)), at-pre .pre .all), at-pre .pre .fresh)
 
 loop-holds : tie.Need-loop-holds Inv-loop μ-loop
-loop-holds c = (refl, at-start (c .before .before .before .before .before .wide .ensures) (c .before .before .meet-own .kept .1 .1 .1 .0 ∙ c .before .before .before .before .before .before .before .before .before .pre .all) (c .before .before .meet-own .ensures))
+loop-holds c =
+    let at-meet-own = c .before .before in
+    let at-wide = at-meet-own .before .before .before in
+    let at-pre = at-wide .before .before .before .before in
+    (refl, at-start (at-wide .wide .ensures) (at-meet-own .meet-own .kept .1 .1 .1 .0 ∙ at-pre .pre .all) (at-meet-own .meet-own .ensures))
 
 same-length : tie.Need-same-length Inv-loop μ-loop
 same-length c = c .before .before .loop .inv .1 .all ∙ sym (c .before .before .before .before .before .before .before .before .before .before .before .before .pre .all)
@@ -47,16 +54,43 @@ wide-requires-2 : tie.Need-wide-requires-2 Inv-loop μ-loop
 wide-requires-2 c κs = search needs
 
 mul-meet : tie.Need-mul-meet Inv-loop μ-loop
-mul-meet c = omega (arith, c .wide2 .ensures, c .before .before .before .before .before .before .before .before .before .before .before .before .before .before .pre .neighbours (c .before .before .before .before .loop .i) (c .before .before .before .loop-test .taken), c .before .before .before .before .before .before .before .before .before .before .before .before .before .before .pre .few)
+mul-meet c =
+    let at-loop-test = c .before .before .before in
+    let at-loop = at-loop-test .before in
+    let at-pre = at-loop .before .before .before .before .before .before .before .before .before .before in
+    omega (arith, c .wide2 .ensures, at-pre .pre .neighbours (at-loop .loop .i) (at-loop-test .loop-test .taken), at-pre .pre .few)
 
 shared-slice-read-meet : tie.Need-shared-slice-read-meet Inv-loop μ-loop
-shared-slice-read-meet c = omega (arith, c .before .wide2 .ensures, c .before .before .before .before .before .before .before .before .before .before .before .before .before .before .before .pre .neighbours (c .before .before .before .before .before .loop .i) (c .before .before .before .before .loop-test .taken))
+shared-slice-read-meet c =
+    let at-wide2 = c .before in
+    let at-loop-test = at-wide2 .before .before .before in
+    let at-loop = at-loop-test .before in
+    let at-pre = at-loop .before .before .before .before .before .before .before .before .before .before in
+    omega (arith, at-wide2 .wide2 .ensures, at-pre .pre .neighbours (at-loop .loop .i) (at-loop-test .loop-test .taken))
 
 meet-requires : tie.Need-meet-requires Inv-loop μ-loop
-meet-requires c κs = omega (arith, c .before .before .before .before .before .before .loop .inv .1 .all, c .before .before .before .before .before .before .before .before .before .before .before .before .before .before .before .before .pre .blocks (c .before .before .wide2 .result) (omega (arith, c .before .before .wide2 .ensures, c .before .before .before .before .before .before .before .before .before .before .before .before .before .before .before .before .pre .neighbours (c .before .before .before .before .before .before .loop .i) (c .before .before .before .before .before .loop-test .taken))))
+meet-requires c κs =
+    let at-wide2 = c .before .before in
+    let at-loop-test = at-wide2 .before .before .before in
+    let at-loop = at-loop-test .before in
+    let at-pre = at-loop .before .before .before .before .before .before .before .before .before .before in
+    omega (arith, at-loop .loop .inv .1 .all, at-pre .pre .blocks (at-wide2 .wide2 .result) (omega (arith, at-wide2 .wide2 .ensures, at-pre .pre .neighbours (at-loop .loop .i) (at-loop-test .loop-test .taken))))
 
 add-count : tie.Need-add-count Inv-loop μ-loop
-add-count c = omega (arith, c .before .before .before .before .before .before .before .before .before .before .before .before .before .before .before .before .before .before .before .pre .small, at-few (at-step (c .before .before .before .before .before .before .before .before .before .loop .inv .1) (c .before .before .before .before .before .before .before .before .loop-test .taken) (c .before .before .before .before .before .before .before .if1 .left) (c .before .before .before .before .before .wide2 .ensures) (c .before .before .before .before .before .before .before .before .before .before .before .before .before .before .before .before .before .before .before .pre .blocks (c .before .before .before .before .before .wide2 .result) (omega (arith, c .before .before .before .before .before .wide2 .ensures, c .before .before .before .before .before .before .before .before .before .before .before .before .before .before .before .before .before .before .before .pre .neighbours (c .before .before .before .before .before .before .before .before .before .loop .i) (c .before .before .before .before .before .before .before .before .loop-test .taken)))) (c .before .before .meet .ensures .0) (c .before .before .meet .ensures .1)))
+add-count c =
+    let at-meet = c .before .before in
+    let at-wide2 = at-meet .before .before .before in
+    let at-if1 = at-wide2 .before .before in
+    let at-loop-test = at-if1 .before in
+    let at-loop = at-loop-test .before in
+    let at-pre = at-loop .before .before .before .before .before .before .before .before .before .before in
+    omega (
+      arith,
+      at-pre .pre .small,
+      at-few (at-step (at-loop .loop .inv .1) (at-loop-test .loop-test .taken) (at-if1 .if1 .left) (at-wide2 .wide2 .ensures)
+          (at-pre .pre .blocks (at-wide2 .wide2 .result) (omega (arith, at-wide2 .wide2 .ensures, at-pre .pre .neighbours (at-loop .loop .i) (at-loop-test .loop-test .taken)))) (at-meet .meet .ensures .0)
+          (at-meet .meet .ensures .1)),
+    )
 
 add-i : tie.Need-add-i Inv-loop μ-loop
 add-i c = search needs
@@ -65,7 +99,18 @@ loop-less : tie.Need-loop-less Inv-loop μ-loop
 loop-less c = search needs
 
 loop-again : tie.Need-loop-again Inv-loop μ-loop
-loop-again c = (refl, at-step (c .before .before .before .before .before .before .before .before .before .loop .inv .1) (c .before .before .before .before .before .before .before .before .loop-test .taken) (c .before .before .before .before .before .before .before .if1 .left) (c .before .before .before .before .before .wide2 .ensures) (c .before .before .before .before .before .before .before .before .before .before .before .before .before .before .before .before .before .before .before .pre .blocks (c .before .before .before .before .before .wide2 .result) (omega (arith, c .before .before .before .before .before .wide2 .ensures, c .before .before .before .before .before .before .before .before .before .before .before .before .before .before .before .before .before .before .before .pre .neighbours (c .before .before .before .before .before .before .before .before .before .loop .i) (c .before .before .before .before .before .before .before .before .loop-test .taken)))) (c .before .before .meet .ensures .0) (c .before .before .meet .ensures .1))
+loop-again c =
+    let at-meet = c .before .before in
+    let at-wide2 = at-meet .before .before .before in
+    let at-if1 = at-wide2 .before .before in
+    let at-loop-test = at-if1 .before in
+    let at-loop = at-loop-test .before in
+    let at-pre = at-loop .before .before .before .before .before .before .before .before .before .before in (
+      refl,
+      at-step (at-loop .loop .inv .1) (at-loop-test .loop-test .taken) (at-if1 .if1 .left) (at-wide2 .wide2 .ensures)
+          (at-pre .pre .blocks (at-wide2 .wide2 .result) (omega (arith, at-wide2 .wide2 .ensures, at-pre .pre .neighbours (at-loop .loop .i) (at-loop-test .loop-test .taken)))) (at-meet .meet .ensures .0)
+          (at-meet .meet .ensures .1),
+    )
 
 same-length-2 : tie.Need-same-length-2 Inv-loop μ-loop
 same-length-2 c = c .before .loop .inv .1 .all ∙ sym (c .before .before .before .before .before .before .before .before .before .before .before .pre .all)

@@ -35,40 +35,89 @@ cast-count-at : tie.Need-cast-count-at Inv-loop μ-loop
 cast-count-at c = search needs
 
 mul-count-at : tie.Need-mul-count-at Inv-loop μ-loop
-mul-count-at c = omega (arith, turn-order (c .before .before .before .before .before .before .before .before .before .before .before .before .before .pre) (c .before .before .before .before .loop .inv) (c .before .before .before .loop-test .taken) (c .before .wide .ensures), turn-room (c .before .before .before .before .before .before .before .before .before .before .before .before .before .pre) (c .before .before .before .before .loop .inv) (c .before .before .before .loop-test .taken) (c .before .wide .ensures))
+mul-count-at c =
+    let at-wide = c .before in
+    let at-loop-test = at-wide .before .before in
+    let at-loop = at-loop-test .before in
+    let at-pre = at-loop .before .before .before .before .before .before .before .before .before in
+    omega (arith, turn-order (at-pre .pre) (at-loop .loop .inv) (at-loop-test .loop-test .taken) (at-wide .wide .ensures), turn-room (at-pre .pre) (at-loop .loop .inv) (at-loop-test .loop-test .taken) (at-wide .wide .ensures))
 
 sub-count-at : tie.Need-sub-count-at Inv-loop μ-loop
-sub-count-at c = turn-order (c .before .before .before .before .before .before .before .before .before .before .before .before .before .pre) (c .before .before .before .before .loop .inv) (c .before .before .before .loop-test .taken) (c .before .wide .ensures)
+sub-count-at c =
+    let at-wide = c .before in
+    let at-loop-test = at-wide .before .before in
+    let at-loop = at-loop-test .before in
+    let at-pre = at-loop .before .before .before .before .before .before .before .before .before in
+    turn-order (at-pre .pre) (at-loop .loop .inv) (at-loop-test .loop-test .taken) (at-wide .wide .ensures)
 
 part-count-at-start : tie.Need-part-count-at-start Inv-loop μ-loop
-part-count-at-start c = omega (arith, turn-order (c .before .before .before .before .before .before .before .before .before .before .before .before .before .pre) (c .before .before .before .before .loop .inv) (c .before .before .before .loop-test .taken) (c .before .wide .ensures), turn-room (c .before .before .before .before .before .before .before .before .before .before .before .before .before .pre) (c .before .before .before .before .loop .inv) (c .before .before .before .loop-test .taken) (c .before .wide .ensures))
+part-count-at-start c =
+    let at-wide = c .before in
+    let at-loop-test = at-wide .before .before in
+    let at-loop = at-loop-test .before in
+    let at-pre = at-loop .before .before .before .before .before .before .before .before .before in
+    omega (arith, turn-order (at-pre .pre) (at-loop .loop .inv) (at-loop-test .loop-test .taken) (at-wide .wide .ensures), turn-room (at-pre .pre) (at-loop .loop .inv) (at-loop-test .loop-test .taken) (at-wide .wide .ensures))
 
 part-count-at-end : tie.Need-part-count-at-end Inv-loop μ-loop
-part-count-at-end c = omega (arith, turn-order (c .before .before .before .before .before .before .before .before .before .before .before .before .before .pre) (c .before .before .before .before .loop .inv) (c .before .before .before .loop-test .taken) (c .before .wide .ensures), turn-room (c .before .before .before .before .before .before .before .before .before .before .before .before .before .pre) (c .before .before .before .before .loop .inv) (c .before .before .before .loop-test .taken) (c .before .wide .ensures))
+part-count-at-end c =
+    let at-wide = c .before in
+    let at-loop-test = at-wide .before .before in
+    let at-loop = at-loop-test .before in
+    let at-pre = at-loop .before .before .before .before .before .before .before .before .before in
+    omega (arith, turn-order (at-pre .pre) (at-loop .loop .inv) (at-loop-test .loop-test .taken) (at-wide .wide .ensures), turn-room (at-pre .pre) (at-loop .loop .inv) (at-loop-test .loop-test .taken) (at-wide .wide .ensures))
 
 count-at-requires : tie.Need-count-at-requires Inv-loop μ-loop
-count-at-requires c κs = turn-meets (c .before .before .before .before .before .before .before .before .before .before .before .before .before .before .before .pre) (c .before .before .before .before .before .before .loop .inv) (c .before .before .before .before .before .loop-test .taken) (c .before .before .before .wide .ensures)
+count-at-requires c κs =
+    let at-wide = c .before .before .before in
+    let at-loop-test = at-wide .before .before in
+    let at-loop = at-loop-test .before in
+    let at-pre = at-loop .before .before .before .before .before .before .before .before .before in
+    turn-meets (at-pre .pre) (at-loop .loop .inv) (at-loop-test .loop-test .taken) (at-wide .wide .ensures)
 
 mul-block-count : tie.Need-mul-block-count Inv-loop μ-loop
-mul-block-count c = omega (arith, c .before .before .before .before .before .before .before .before .before .loop .inv .counts-long, c .before .before .before .before .before .before .before .before .before .before .before .before .before .before .before .before .before .before .pre .buckets .few)
+mul-block-count c =
+    let at-loop = c .before .before .before .before .before .before .before .before .before in
+    let at-pre = at-loop .before .before .before .before .before .before .before .before .before in
+    omega (arith, at-loop .loop .inv .counts-long, at-pre .pre .buckets .few)
 
 slice-write-block-count : tie.Need-slice-write-block-count Inv-loop μ-loop
 slice-write-block-count c = omega (arith, c .before .before .before .before .before .before .before .before .before .loop .inv .counts-long)
 
 sub-known-at : tie.Need-sub-known-at Inv-loop μ-loop
-sub-known-at c = turn-order (c .before .before .before .before .before .before .before .before .before .before .before .before .before .before .before .before .before .before .pre) (c .before .before .before .before .before .before .before .before .before .loop .inv) (c .before .before .before .before .before .before .before .before .loop-test .taken) (c .before .before .before .before .before .before .wide .ensures)
+sub-known-at c =
+    let at-wide = c .before .before .before .before .before .before in
+    let at-loop-test = at-wide .before .before in
+    let at-loop = at-loop-test .before in
+    let at-pre = at-loop .before .before .before .before .before .before .before .before .before in
+    turn-order (at-pre .pre) (at-loop .loop .inv) (at-loop-test .loop-test .taken) (at-wide .wide .ensures)
 
 known-at-requires : tie.Need-known-at-requires Inv-loop μ-loop
-known-at-requires c κs = (c .before .before .before .before .before .before .before .before .before .before .before .before .before .before .before .before .before .before .pre .few-upward _ (c .before .before .before .before .before .before .before .before .loop-test .taken), turn-short (c .before .before .before .before .before .before .before .before .before .before .before .before .before .before .before .before .before .before .pre) (c .before .before .before .before .before .before .before .before .before .loop .inv) (c .before .before .before .before .before .before .before .before .loop-test .taken) (c .before .before .before .before .before .before .wide .ensures), turn-read (c .before .before .before .before .before .before .before .before .before .before .before .before .before .before .before .before .before .before .pre) (c .before .before .before .before .before .before .before .before .before .loop .inv) (c .before .before .before .before .before .before .before .before .loop-test .taken) (c .before .before .before .before .before .before .wide .ensures) (c .before .before .count-at .ensures))
+known-at-requires c κs =
+    let at-count-at = c .before .before in
+    let at-wide = at-count-at .before .before .before .before in
+    let at-loop-test = at-wide .before .before in
+    let at-loop = at-loop-test .before in
+    let at-pre = at-loop .before .before .before .before .before .before .before .before .before in (
+      at-pre .pre .few-upward _ (at-loop-test .loop-test .taken),
+      turn-short (at-pre .pre) (at-loop .loop .inv) (at-loop-test .loop-test .taken) (at-wide .wide .ensures),
+      turn-read (at-pre .pre)
+          (at-loop .loop .inv) (at-loop-test .loop-test .taken) (at-wide .wide .ensures) (at-count-at .count-at .ensures),
+    )
 
 mul-edges-taken : tie.Need-mul-edges-taken Inv-loop μ-loop
-mul-edges-taken c = omega (arith, c .before .before .before .before .before .before .before .before .before .before .loop .inv .taken-long, c .before .before .before .before .before .before .before .before .before .before .before .before .before .before .before .before .before .before .before .pre .buckets .few)
+mul-edges-taken c =
+    let at-loop = c .before .before .before .before .before .before .before .before .before .before in
+    let at-pre = at-loop .before .before .before .before .before .before .before .before .before in
+    omega (arith, at-loop .loop .inv .taken-long, at-pre .pre .buckets .few)
 
 slice-write-edges-taken : tie.Need-slice-write-edges-taken Inv-loop μ-loop
 slice-write-edges-taken c = omega (arith, c .before .before .before .before .before .before .before .before .before .before .loop .inv .taken-long)
 
 mul-pending : tie.Need-mul-pending Inv-loop μ-loop
-mul-pending c = omega (arith, c .before .before .before .before .before .before .before .before .before .before .loop .inv .pending-long, c .before .before .before .before .before .before .before .before .before .before .before .before .before .before .before .before .before .before .before .pre .buckets .few)
+mul-pending c =
+    let at-loop = c .before .before .before .before .before .before .before .before .before .before in
+    let at-pre = at-loop .before .before .before .before .before .before .before .before .before in
+    omega (arith, at-loop .loop .inv .pending-long, at-pre .pre .buckets .few)
 
 slice-write-pending : tie.Need-slice-write-pending Inv-loop μ-loop
 slice-write-pending c = omega (arith, c .before .before .before .before .before .before .before .before .before .before .loop .inv .pending-long)
@@ -80,7 +129,13 @@ loop-less : tie.Need-loop-less Inv-loop μ-loop
 loop-less c = search needs
 
 loop-again : tie.Need-loop-again Inv-loop μ-loop
-loop-again c = turn-step (c .before .before .before .before .before .before .before .before .before .before .before .before .before .before .before .before .before .before .before .pre) (c .before .before .before .before .before .before .before .before .before .before .loop .inv) (c .before .before .before .before .before .before .before .before .before .loop-test .taken) (c .before .before .before .before .before .before .before .wide .ensures) (c .before .before .before .count-at .ensures) (c .before .before .before .count-at .kept .1 .1 .1 .1 .1 .0) (c .known-at .ensures)
+loop-again c =
+    let at-count-at = c .before .before .before in
+    let at-wide = at-count-at .before .before .before .before in
+    let at-loop-test = at-wide .before .before in
+    let at-loop = at-loop-test .before in
+    let at-pre = at-loop .before .before .before .before .before .before .before .before .before in
+    turn-step (at-pre .pre) (at-loop .loop .inv) (at-loop-test .loop-test .taken) (at-wide .wide .ensures) (at-count-at .count-at .ensures) (at-count-at .count-at .kept .1 .1 .1 .1 .1 .0) (c .known-at .ensures)
 
 same-length : tie.Need-same-length Inv-loop μ-loop
 same-length c = c .before .loop .inv .counts-long ∙ sym (c .before .before .before .before .before .before .before .before .before .before .pre .counts-long)

@@ -25,7 +25,11 @@ waits-requires : tie.Need-waits-requires Inv-loop μ-loop
 waits-requires c κs = search needs
 
 add-count : tie.Need-add-count Inv-loop μ-loop
-add-count c = omega (arith, c .before .before .before .before .before .pre, wait-fits (wait-step (c .before .before .before .loop .inv) (c .before .before .loop-test .taken) (c .waits .ensures)))
+add-count c =
+    let at-loop-test = c .before .before in
+    let at-loop = at-loop-test .before in
+    let at-pre = at-loop .before .before in
+    omega (arith, at-pre .pre, wait-fits (wait-step (at-loop .loop .inv) (at-loop-test .loop-test .taken) (c .waits .ensures)))
 
 add-x : tie.Need-add-x Inv-loop μ-loop
 add-x c = search needs

@@ -41,7 +41,11 @@ slice-read-edges-taken : tie.Need-slice-read-edges-taken
 slice-read-edges-taken c = search needs
 
 add-edges-taken : tie.Need-add-edges-taken
-add-edges-taken c = record { fits = pass-fits _ (c .before .before .before .before .before .before .before .before .before .before .before .args .pending .now) (c .before .before .before .before .before .before .before .before .before .before .before .args .edges-taken .now) (c .before .before .before .before .before .before .before .wide .ensures) (c .before .before .before .before .before .if1 .left) (c .before .before .before .before .before .before .before .before .before .before .before .pre .small) }
+add-edges-taken c =
+    let at-if1 = c .before .before .before .before .before in
+    let at-wide = at-if1 .before .before in
+    let at-args = at-wide .before .before .before .before in
+    record { fits = pass-fits _ (at-args .args .pending .now) (at-args .args .edges-taken .now) (at-wide .wide .ensures) (at-if1 .if1 .left) (at-args .pre .small) }
 
 slice-write-edges-taken : tie.Need-slice-write-edges-taken
 slice-write-edges-taken c = search needs
@@ -65,7 +69,12 @@ same-length-2 : tie.Need-same-length-2
 same-length-2 c = search needs
 
 returns-2 : tie.Need-returns-2
-returns-2 c = pass-on _ _ _ _ _ (c .before .before .before .before .before .before .before .before .wide .ensures) (c .before .before .before .before .wide2 .ensures) (c .before .before .before .before .before .before .if1 .left) (c .before .before .next .ensures) (c .waits .ensures)
+returns-2 c =
+    let at-next = c .before .before in
+    let at-wide2 = at-next .before .before in
+    let at-if1 = at-wide2 .before .before in
+    let at-wide = at-if1 .before .before in
+    pass-on _ _ _ _ _ (at-wide .wide .ensures) (at-wide2 .wide2 .ensures) (at-if1 .if1 .left) (at-next .next .ensures) (c .waits .ensures)
 
 pub pass-spec : {M : Type 1} → statement M
 pass-spec =

@@ -14,7 +14,9 @@ abbrev μ-loop : tie.MeasureT-loop
 μ-loop edges block pending₀ edges-taken₀ waiting₀ i₀ pending edges-taken waiting i = length edges - i
 
 count-waiting-requires : tie.Need-count-waiting-requires Inv-loop μ-loop
-count-waiting-requires c κs = omega (arith, c .before .before .before .before .before .pre .few, c .before .before .before .before .before .pre .pending-long)
+count-waiting-requires c κs =
+    let at-pre = c .before .before .before .before .before in
+    omega (arith, at-pre .pre .few, at-pre .pre .pending-long)
 
 loop-holds : tie.Need-loop-holds Inv-loop μ-loop
 loop-holds c = sweep-start (c .before .before .before .before .before .before .pre) (c .count-waiting .ensures)
@@ -50,16 +52,40 @@ end-of-requires : tie.Need-end-of-requires Inv-loop μ-loop
 end-of-requires c κs = search needs
 
 pass-requires : tie.Need-pass-requires Inv-loop μ-loop
-pass-requires c κs = sweep-first (c .before .before .before .before .before .before .before .before .before .before .before .before .before .before .pre) (c .before .before .before .before .before .before .before .loop .inv) (c .before .before .before .before .before .before .loop-test .taken) (low-end _ _ (c .before .before .end-of .ensures))
+pass-requires c κs =
+    let at-end-of = c .before .before in
+    let at-loop-test = at-end-of .before .before .before .before in
+    let at-loop = at-loop-test .before in
+    let at-pre = at-loop .before .before .before .before .before .before .before in
+    sweep-first (at-pre .pre) (at-loop .loop .inv) (at-loop-test .loop-test .taken) (low-end _ _ (at-end-of .end-of .ensures))
 
 sub-waiting : tie.Need-sub-waiting Inv-loop μ-loop
-sub-waiting c = sweep-less (c .before .before .before .before .before .before .before .before .before .before .before .before .before .before .before .before .before .before .before .pre) (c .before .before .before .before .before .before .before .before .before .before .before .before .loop .inv) (c .before .before .before .before .before .before .before .before .before .before .before .loop-test .taken) (low-end _ _ (c .before .before .before .before .before .before .before .end-of .ensures)) (c .before .before .before .before .pass .ensures)
+sub-waiting c =
+    let at-pass = c .before .before .before .before in
+    let at-end-of = at-pass .before .before .before in
+    let at-loop-test = at-end-of .before .before .before .before in
+    let at-loop = at-loop-test .before in
+    let at-pre = at-loop .before .before .before .before .before .before .before in
+    sweep-less (at-pre .pre) (at-loop .loop .inv) (at-loop-test .loop-test .taken) (low-end _ _ (at-end-of .end-of .ensures)) (at-pass .pass .ensures)
 
 pass-requires-2 : tie.Need-pass-requires-2 Inv-loop μ-loop
-pass-requires-2 c κs = sweep-second (c .before .before .before .before .before .before .before .before .before .before .before .before .before .before .before .before .before .before .before .before .before .pre) (c .before .before .before .before .before .before .before .before .before .before .before .before .before .before .loop .inv) (c .before .before .before .before .before .before .before .before .before .before .before .before .before .loop-test .taken) (low-end _ _ (c .before .before .before .before .before .before .before .before .before .end-of .ensures)) (c .before .before .before .before .before .before .pass .ensures)
+pass-requires-2 c κs =
+    let at-pass = c .before .before .before .before .before .before in
+    let at-end-of = at-pass .before .before .before in
+    let at-loop-test = at-end-of .before .before .before .before in
+    let at-loop = at-loop-test .before in
+    let at-pre = at-loop .before .before .before .before .before .before .before in
+    sweep-second (at-pre .pre) (at-loop .loop .inv) (at-loop-test .loop-test .taken) (low-end _ _ (at-end-of .end-of .ensures)) (at-pass .pass .ensures)
 
 sub-waiting-2 : tie.Need-sub-waiting-2 Inv-loop μ-loop
-sub-waiting-2 c = sweep-less-again (c .before .before .before .before .before .before .before .before .before .before .before .before .before .before .before .before .before .before .before .before .before .before .before .before .before .before .pre) (c .before .before .before .before .before .before .before .before .before .before .before .before .before .before .before .before .before .before .before .loop .inv) (c .before .before .before .before .before .before .before .before .before .before .before .before .before .before .before .before .before .before .loop-test .taken) (low-end _ _ (c .before .before .before .before .before .before .before .before .before .before .before .before .before .before .end-of .ensures)) (c .before .before .before .before .before .before .before .before .before .before .before .pass .ensures) (c .before .before .before .before .pass2 .ensures)
+sub-waiting-2 c =
+    let at-pass2 = c .before .before .before .before in
+    let at-pass = at-pass2 .before .before .before .before .before .before .before in
+    let at-end-of = at-pass .before .before .before in
+    let at-loop-test = at-end-of .before .before .before .before in
+    let at-loop = at-loop-test .before in
+    let at-pre = at-loop .before .before .before .before .before .before .before in
+    sweep-less-again (at-pre .pre) (at-loop .loop .inv) (at-loop-test .loop-test .taken) (low-end _ _ (at-end-of .end-of .ensures)) (at-pass .pass .ensures) (at-pass2 .pass2 .ensures)
 
 add-i : tie.Need-add-i Inv-loop μ-loop
 add-i c = search needs
@@ -68,7 +94,14 @@ loop-less : tie.Need-loop-less Inv-loop μ-loop
 loop-less c = search needs
 
 loop-again : tie.Need-loop-again Inv-loop μ-loop
-loop-again c = sweep-step (c .before .before .before .before .before .before .before .before .before .before .before .before .before .before .before .before .before .before .before .before .before .before .before .before .before .before .pre) (c .before .before .before .before .before .before .before .before .before .before .before .before .before .before .before .before .before .before .before .loop .inv) (c .before .before .before .before .before .before .before .before .before .before .before .before .before .before .before .before .before .before .loop-test .taken) (low-end _ _ (c .before .before .before .before .before .before .before .before .before .before .before .before .before .before .end-of .ensures)) (c .before .before .before .before .before .before .before .before .before .before .before .pass .ensures) (c .before .before .before .before .pass2 .ensures)
+loop-again c =
+    let at-pass2 = c .before .before .before .before in
+    let at-pass = at-pass2 .before .before .before .before .before .before .before in
+    let at-end-of = at-pass .before .before .before in
+    let at-loop-test = at-end-of .before .before .before .before in
+    let at-loop = at-loop-test .before in
+    let at-pre = at-loop .before .before .before .before .before .before .before in
+    sweep-step (at-pre .pre) (at-loop .loop .inv) (at-loop-test .loop-test .taken) (low-end _ _ (at-end-of .end-of .ensures)) (at-pass .pass .ensures) (at-pass2 .pass2 .ensures)
 
 same-length-3 : tie.Need-same-length-3 Inv-loop μ-loop
 same-length-3 c = c .before .loop .inv .pending-long ∙ sym (c .before .before .before .before .before .before .before .before .pre .pending-long)

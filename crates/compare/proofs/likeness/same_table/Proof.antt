@@ -30,8 +30,11 @@ shared-slice-read-if1-2 c = search needs
 
 returns : tie.Need-returns Inv-loop μ-loop
 returns c =
-    sym (scan-differs _ _ _ (c .before .before .before .before .before .pre) (c .before .before .before .loop-test .taken) (c .if1 .taken))
-    ∙ c .before .before .before .before .loop .inv .1
+    let at-loop-test = c .before .before .before in
+    let at-loop = at-loop-test .before in
+    let at-pre = at-loop .before in
+    sym (scan-differs _ _ _ (at-pre .pre) (at-loop-test .loop-test .taken) (c .if1 .taken))
+    ∙ at-loop .loop .inv .1
 
 add-i : tie.Need-add-i Inv-loop μ-loop
 add-i c = search needs
@@ -40,11 +43,14 @@ loop-less : tie.Need-loop-less Inv-loop μ-loop
 loop-less c = search needs
 
 loop-again : tie.Need-loop-again Inv-loop μ-loop
-loop-again c = (
-  search needs,
-  scan-agrees _ _ _ (c .before .before .before .before .before .pre) (c .before .before .before .loop-test .taken) (c .if1 .left)
-      ∙ c .before .before .before .before .loop .inv .1,
-)
+loop-again c =
+    let at-loop-test = c .before .before .before in
+    let at-loop = at-loop-test .before in
+    let at-pre = at-loop .before in (
+      search needs,
+      scan-agrees _ _ _ (at-pre .pre) (at-loop-test .loop-test .taken) (c .if1 .left)
+          ∙ at-loop .loop .inv .1,
+    )
 
 returns-2 : tie.Need-returns-2 Inv-loop μ-loop
 returns-2 c = sym (scan-over _ _ _ (c .before .before .pre) (c .loop-test .left)) ∙ c .before .loop .inv .1

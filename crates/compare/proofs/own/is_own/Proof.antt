@@ -10,7 +10,11 @@ add-requires : tie.Need-add-requires
 add-requires c κs = search needs
 
 same-net-requires : tie.Need-same-net-requires
-same-net-requires c κs = told-lengths (c .before .before .before .before .before .before .before .before .before .before .before .before .before .before .before .before .before .before .before .before .before .before .before .before .before .before .before .before .before .before .before .before .before .pre) (c .before .before .before .before .before .before .before .before .before .before .before .before .before .before .before .before .before .before .before .before .before .before .start .ensures) (c .before .before .before .before .before .before .before .before .before .before .before .before .add .ensures)
+same-net-requires c κs =
+    let at-add = c .before .before .before .before .before .before .before .before .before .before .before .before in
+    let at-start = at-add .before .before .before .before .before .before .before .before .before .before in
+    let at-pre = at-start .before .before .before .before .before .before .before .before .before .before .before in
+    told-lengths (at-pre .pre) (at-start .start .ensures) (at-add .add .ensures)
 
 same-length : tie.Need-same-length
 same-length c = search needs
@@ -28,7 +32,11 @@ same-length-5 : tie.Need-same-length-5
 same-length-5 c = search needs
 
 returns : tie.Need-returns
-returns c = told (c .before .before .before .before .before .before .before .before .before .before .before .before .before .before .before .before .before .before .before .before .before .before .before .before .before .before .before .before .before .before .before .before .before .before .pre) (c .before .before .before .before .before .before .before .before .before .before .before .before .before .before .before .before .before .before .before .before .before .before .before .start .ensures) (c .before .before .before .before .before .before .before .before .before .before .before .before .before .add .ensures) (c .same-net .ensures)
+returns c =
+    let at-add = c .before .before .before .before .before .before .before .before .before .before .before .before .before in
+    let at-start = at-add .before .before .before .before .before .before .before .before .before .before in
+    let at-pre = at-start .before .before .before .before .before .before .before .before .before .before .before in
+    told (at-pre .pre) (at-start .start .ensures) (at-add .add .ensures) (c .same-net .ensures)
 
 pub is-own-spec : {M : Type 1} → statement M
 is-own-spec =

@@ -41,7 +41,17 @@ cut-reach-requires : tie.Need-cut-reach-requires Inv-loop μ-loop
 cut-reach-requires c κs = search needs
 
 add-sum : tie.Need-add-sum Inv-loop μ-loop
-add-sum c = omega (arith, c .cut-reach .ensures ∙ bound-term (c .before .before .before .before .before .before .before .before .before .args .parents .now) (c .before .before .before .before .before .before .before .before .before .args .top .now) (c .before .before .before .before .before .before .before .before .before .args .reach .now) (c .before .before .before .before .before .loop .x) (c .before .before .before .before .loop-test .taken), bound-term-le (c .before .before .before .before .before .before .before .before .before .args .parents .now) (c .before .before .before .before .before .before .before .before .before .args .top .now) (c .before .before .before .before .before .before .before .before .before .args .reach .now) (c .before .before .before .before .before .loop .x), c .before .shared-slice-known6 .given (c .before .before .before .before .before .loop .x))
+add-sum c =
+    let at-shared-slice-known6 = c .before in
+    let at-loop-test = at-shared-slice-known6 .before .before .before in
+    let at-loop = at-loop-test .before in
+    let at-args = at-loop .before .before .before .before in
+    omega (
+      arith,
+      c .cut-reach .ensures ∙ bound-term (at-args .args .parents .now) (at-args .args .top .now) (at-args .args .reach .now) (at-loop .loop .x) (at-loop-test .loop-test .taken),
+      bound-term-le (at-args .args .parents .now) (at-args .args .top .now) (at-args .args .reach .now) (at-loop .loop .x),
+      at-shared-slice-known6 .shared-slice-known6 .given (at-loop .loop .x),
+    )
 
 add-x : tie.Need-add-x Inv-loop μ-loop
 add-x c = search needs
@@ -50,15 +60,27 @@ loop-less : tie.Need-loop-less Inv-loop μ-loop
 loop-less c = search needs
 
 loop-again : tie.Need-loop-again Inv-loop μ-loop
-loop-again c = (
-  omega arith,
-  sum-step _ (c .before .before .before .before .before .loop .x) (c .before .before .before .before .before .loop .inv .1) (c .cut-reach .ensures ∙ bound-term (c .before .before .before .before .before .before .before .before .before .args .parents .now) (c .before .before .before .before .before .before .before .before .before .args .top .now) (c .before .before .before .before .before .before .before .before .before .args .reach .now) (c .before .before .before .before .before .loop .x) (c .before .before .before .before .loop-test .taken)),
-  omega (arith, c .cut-reach .ensures ∙ bound-term (c .before .before .before .before .before .before .before .before .before .args .parents .now) (c .before .before .before .before .before .before .before .before .before .args .top .now) (c .before .before .before .before .before .before .before .before .before .args .reach .now) (c .before .before .before .before .before .loop .x) (c .before .before .before .before .loop-test .taken), bound-term-le (c .before .before .before .before .before .before .before .before .before .args .parents .now) (c .before .before .before .before .before .before .before .before .before .args .top .now) (c .before .before .before .before .before .before .before .before .before .args .reach .now) (c .before .before .before .before .before .loop .x), c .before .shared-slice-known6 .given (c .before .before .before .before .before .loop .x)),
-)
+loop-again c =
+    let at-shared-slice-known6 = c .before in
+    let at-loop-test = at-shared-slice-known6 .before .before .before in
+    let at-loop = at-loop-test .before in
+    let at-args = at-loop .before .before .before .before in (
+      omega arith,
+      sum-step _ (at-loop .loop .x) (at-loop .loop .inv .1) (c .cut-reach .ensures ∙ bound-term (at-args .args .parents .now) (at-args .args .top .now) (at-args .args .reach .now) (at-loop .loop .x) (at-loop-test .loop-test .taken)),
+      omega (
+        arith,
+        c .cut-reach .ensures ∙ bound-term (at-args .args .parents .now) (at-args .args .top .now) (at-args .args .reach .now) (at-loop .loop .x) (at-loop-test .loop-test .taken),
+        bound-term-le (at-args .args .parents .now) (at-args .args .top .now) (at-args .args .reach .now) (at-loop .loop .x),
+        at-shared-slice-known6 .shared-slice-known6 .given (at-loop .loop .x),
+      ),
+    )
 
 returns : tie.Need-returns Inv-loop μ-loop
 unfolding boundBy
-returns c = c .before .loop .inv .1 ∙ ap (λ (n : ℕ). total (tabulate n (boundTerm (c .before .before .before .before .before .args .parents .now) (c .before .before .before .before .before .args .top .now) (c .before .before .before .before .before .args .reach .now)))) (omega arith)
+returns c =
+    let at-loop = c .before in
+    let at-args = at-loop .before .before .before .before in
+    at-loop .loop .inv .1 ∙ ap (λ (n : ℕ). total (tabulate n (boundTerm (at-args .args .parents .now) (at-args .args .top .now) (at-args .args .reach .now)))) (omega arith)
 
 pub bound-spec : {M : Type 1} → statement M
 bound-spec =

@@ -7,13 +7,20 @@ returns : tie.Need-returns
 returns c = cut-other (c .before .args .x) (c .before .args .parent) (c .before .args .top) (c .before .args .reach) (c .if1 .taken)
 
 returns-2 : tie.Need-returns-2
-returns-2 c = cut-root (c .before .before .args .x) (c .before .before .args .parent) (c .before .before .args .top) (c .before .before .args .reach) (c .before .if1 .left) (c .if2 .taken)
+returns-2 c =
+    let at-if1 = c .before in
+    let at-args = at-if1 .before in
+    cut-root (at-args .args .x) (at-args .args .parent) (at-args .args .top) (at-args .args .reach) (at-if1 .if1 .left) (c .if2 .taken)
 
 amount-requires : tie.Need-amount-requires
 amount-requires c κs = search needs
 
 returns-3 : tie.Need-returns-3
-returns-3 c = cut-here (c .before .before .before .args .x) (c .before .before .before .args .parent) (c .before .before .before .args .top) (c .before .before .before .args .reach) (c .before .before .if1 .left) (c .before .if2 .left) (c .amount .ensures)
+returns-3 c =
+    let at-if2 = c .before in
+    let at-if1 = at-if2 .before in
+    let at-args = at-if1 .before in
+    cut-here (at-args .args .x) (at-args .args .parent) (at-args .args .top) (at-args .args .reach) (at-if1 .if1 .left) (at-if2 .if2 .left) (c .amount .ensures)
 
 pub cut-reach-spec : {M : Type 1} → statement M
 cut-reach-spec = tie.close (tie.spec returns returns-2 amount-requires returns-3)

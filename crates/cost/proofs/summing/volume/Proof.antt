@@ -39,11 +39,13 @@ loop-less c = search needs
 
 loop-again : tie.Need-loop-again Inv-loop μ-loop
 unfolding volumeTerm
-loop-again c = (
-  omega arith,
-  sum-step _ (c .before .before .before .loop .x) (c .before .before .before .loop .inv .1) (c .shared .ensures),
-  omega (arith, c .before .shared-slice-known2 .given (c .before .before .before .loop .x), c .shared .ensures),
-)
+loop-again c =
+    let at-shared-slice-known2 = c .before in
+    let at-loop = at-shared-slice-known2 .before .before in (
+      omega arith,
+      sum-step _ (at-loop .loop .x) (at-loop .loop .inv .1) (c .shared .ensures),
+      omega (arith, at-shared-slice-known2 .shared-slice-known2 .given (at-loop .loop .x), c .shared .ensures),
+    )
 
 returns : tie.Need-returns Inv-loop μ-loop
 unfolding volumeBy

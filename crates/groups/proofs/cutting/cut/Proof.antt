@@ -16,7 +16,9 @@ abbrev μ-loop : tie.MeasureT-loop
 μ-loop parents weights bound carried₀ link₀ next₀ x₀ carried link next x = length parents - x
 
 loop-holds : tie.Need-loop-holds Inv-loop μ-loop
-loop-holds c = cutting-begin (c .before .before .before .before .before .pre .0) (c .before .before .before .before .before .pre .1 .0 .0) (c .before .before .before .before .before .pre .1 .0 .1) (c .before .before .before .before .before .pre .1 .1)
+loop-holds c =
+    let at-pre = c .before .before .before .before .before in
+    cutting-begin (at-pre .pre .0) (at-pre .pre .1 .0 .0) (at-pre .pre .1 .0 .1) (at-pre .pre .1 .1)
 
 cast-lighten : tie.Need-cast-lighten Inv-loop μ-loop
 cast-lighten c = search needs
@@ -40,7 +42,11 @@ slice-read-lighten-2 : tie.Need-slice-read-lighten-2 Inv-loop μ-loop
 slice-read-lighten-2 c = search needs
 
 lighten-requires : tie.Need-lighten-requires Inv-loop μ-loop
-lighten-requires c κs = (cutting-loaded (c .before .before .before .before .before .before .before .before .before .before .before .before .before .pre .0) (c .before .before .before .before .before .before .before .loop .inv) (c .before .before .before .before .before .before .loop-test .taken), cutting-children (c .before .before .before .before .before .before .before .before .before .before .before .before .before .pre .0) (c .before .before .before .before .before .before .before .loop .inv) (c .before .before .before .before .before .before .loop-test .taken))
+lighten-requires c κs =
+    let at-loop-test = c .before .before .before .before .before .before in
+    let at-loop = at-loop-test .before in
+    let at-pre = at-loop .before .before .before .before .before .before in
+    (cutting-loaded (at-pre .pre .0) (at-loop .loop .inv) (at-loop-test .loop-test .taken), cutting-children (at-pre .pre .0) (at-loop .loop .inv) (at-loop-test .loop-test .taken))
 
 mul-carried : tie.Need-mul-carried Inv-loop μ-loop
 mul-carried c = search needs
@@ -67,10 +73,41 @@ wide-requires : tie.Need-wide-requires Inv-loop μ-loop
 wide-requires c κs = search needs
 
 mul-next : tie.Need-mul-next Inv-loop μ-loop
-mul-next c = omega (arith, hand-inside (c .before .before .before .before .before .before .before .before .before .before .before .before .before .before .before .before .before .before .before .before .before .pre .0) (c .before .before .before .before .before .before .before .before .before .before .before .before .before .before .before .loop .inv) (c .before .before .before .before .before .before .before .before .before .before .before .before .before .before .loop-test .taken) (c .before .before .before .before .before .before .before .lighten .ensures) (c .before .before .before .before .before .before .before .lighten .kept .1 .1 .1 .1 .1 .1 .0) (c .before .before .before .before .before .before .before .lighten .kept .1 .1 .1 .1 .1 .1 .1 .0) (c .wide .ensures) (c .before .if1 .left), c .before .before .before .before .before .before .before .before .before .before .before .before .before .before .before .before .before .before .before .before .before .pre .0 .few, c .before .before .before .before .before .before .before .before .before .before .before .before .before .before .before .loop .inv .linked, c .before .before .before .before .before .before .before .before .before .before .before .before .before .before .before .loop .inv .told, c .before .before .before .before .before .before .before .before .before .before .before .before .before .before .before .loop .inv .tails, c .before .before .before .before .before .before .before .lighten .kept .1 .1 .1 .1 .1 .1 .0)
+mul-next c =
+    let at-if1 = c .before in
+    let at-lighten = at-if1 .before .before .before .before .before .before in
+    let at-loop-test = at-lighten .before .before .before .before .before .before .before in
+    let at-loop = at-loop-test .before in
+    let at-pre = at-loop .before .before .before .before .before .before in
+    omega (
+      arith,
+      hand-inside (at-pre .pre .0) (at-loop .loop .inv) (at-loop-test .loop-test .taken) (at-lighten .lighten .ensures) (at-lighten .lighten .kept .1 .1 .1 .1 .1 .1 .0)
+          (at-lighten .lighten .kept .1 .1 .1 .1 .1 .1 .1 .0) (c .wide .ensures) (at-if1 .if1 .left),
+      at-pre .pre .0 .few,
+      at-loop .loop .inv .linked,
+      at-loop .loop .inv .told,
+      at-loop .loop .inv .tails,
+      at-lighten .lighten .kept .1 .1 .1 .1 .1 .1 .0,
+    )
 
 slice-read-next : tie.Need-slice-read-next Inv-loop μ-loop
-slice-read-next c = omega (arith, hand-inside (c .before .before .before .before .before .before .before .before .before .before .before .before .before .before .before .before .before .before .before .before .before .before .pre .0) (c .before .before .before .before .before .before .before .before .before .before .before .before .before .before .before .before .loop .inv) (c .before .before .before .before .before .before .before .before .before .before .before .before .before .before .before .loop-test .taken) (c .before .before .before .before .before .before .before .before .lighten .ensures) (c .before .before .before .before .before .before .before .before .lighten .kept .1 .1 .1 .1 .1 .1 .0) (c .before .before .before .before .before .before .before .before .lighten .kept .1 .1 .1 .1 .1 .1 .1 .0) (c .before .wide .ensures) (c .before .before .if1 .left), c .before .before .before .before .before .before .before .before .before .before .before .before .before .before .before .before .before .before .before .before .before .before .pre .0 .few, c .before .before .before .before .before .before .before .before .before .before .before .before .before .before .before .before .loop .inv .linked, c .before .before .before .before .before .before .before .before .before .before .before .before .before .before .before .before .loop .inv .told, c .before .before .before .before .before .before .before .before .before .before .before .before .before .before .before .before .loop .inv .tails, c .before .before .before .before .before .before .before .before .lighten .kept .1 .1 .1 .1 .1 .1 .0)
+slice-read-next c =
+    let at-wide = c .before in
+    let at-if1 = at-wide .before in
+    let at-lighten = at-if1 .before .before .before .before .before .before in
+    let at-loop-test = at-lighten .before .before .before .before .before .before .before in
+    let at-loop = at-loop-test .before in
+    let at-pre = at-loop .before .before .before .before .before .before in
+    omega (
+      arith,
+      hand-inside (at-pre .pre .0) (at-loop .loop .inv) (at-loop-test .loop-test .taken) (at-lighten .lighten .ensures) (at-lighten .lighten .kept .1 .1 .1 .1 .1 .1 .0)
+          (at-lighten .lighten .kept .1 .1 .1 .1 .1 .1 .1 .0) (at-wide .wide .ensures) (at-if1 .if1 .left),
+      at-pre .pre .0 .few,
+      at-loop .loop .inv .linked,
+      at-loop .loop .inv .told,
+      at-loop .loop .inv .tails,
+      at-lighten .lighten .kept .1 .1 .1 .1 .1 .1 .0,
+    )
 
 mul-next-2 : tie.Need-mul-next-2 Inv-loop μ-loop
 mul-next-2 c = search needs
@@ -82,28 +119,124 @@ cast-link-2 : tie.Need-cast-link-2 Inv-loop μ-loop
 cast-link-2 c = search needs
 
 mul-link-2 : tie.Need-mul-link-2 Inv-loop μ-loop
-mul-link-2 c = omega (arith, hand-inside (c .before .before .before .before .before .before .before .before .before .before .before .before .before .before .before .before .before .before .before .before .before .before .pre .0) (c .before .before .before .before .before .before .before .before .before .before .before .before .before .before .before .before .loop .inv) (c .before .before .before .before .before .before .before .before .before .before .before .before .before .before .before .loop-test .taken) (c .before .before .before .before .before .before .before .before .lighten .ensures) (c .before .before .before .before .before .before .before .before .lighten .kept .1 .1 .1 .1 .1 .1 .0) (c .before .before .before .before .before .before .before .before .lighten .kept .1 .1 .1 .1 .1 .1 .1 .0) (c .before .wide .ensures) (c .before .before .if1 .left), c .before .before .before .before .before .before .before .before .before .before .before .before .before .before .before .before .before .before .before .before .before .before .pre .0 .few, c .before .before .before .before .before .before .before .before .before .before .before .before .before .before .before .before .loop .inv .linked, c .before .before .before .before .before .before .before .before .before .before .before .before .before .before .before .before .loop .inv .told, c .before .before .before .before .before .before .before .before .before .before .before .before .before .before .before .before .loop .inv .tails, c .before .before .before .before .before .before .before .before .lighten .kept .1 .1 .1 .1 .1 .1 .0)
+mul-link-2 c =
+    let at-wide = c .before in
+    let at-if1 = at-wide .before in
+    let at-lighten = at-if1 .before .before .before .before .before .before in
+    let at-loop-test = at-lighten .before .before .before .before .before .before .before in
+    let at-loop = at-loop-test .before in
+    let at-pre = at-loop .before .before .before .before .before .before in
+    omega (
+      arith,
+      hand-inside (at-pre .pre .0) (at-loop .loop .inv) (at-loop-test .loop-test .taken) (at-lighten .lighten .ensures) (at-lighten .lighten .kept .1 .1 .1 .1 .1 .1 .0)
+          (at-lighten .lighten .kept .1 .1 .1 .1 .1 .1 .1 .0) (at-wide .wide .ensures) (at-if1 .if1 .left),
+      at-pre .pre .0 .few,
+      at-loop .loop .inv .linked,
+      at-loop .loop .inv .told,
+      at-loop .loop .inv .tails,
+      at-lighten .lighten .kept .1 .1 .1 .1 .1 .1 .0,
+    )
 
 slice-write-link-2 : tie.Need-slice-write-link-2 Inv-loop μ-loop
-slice-write-link-2 c = omega (arith, hand-inside (c .before .before .before .before .before .before .before .before .before .before .before .before .before .before .before .before .before .before .before .before .before .before .pre .0) (c .before .before .before .before .before .before .before .before .before .before .before .before .before .before .before .before .loop .inv) (c .before .before .before .before .before .before .before .before .before .before .before .before .before .before .before .loop-test .taken) (c .before .before .before .before .before .before .before .before .lighten .ensures) (c .before .before .before .before .before .before .before .before .lighten .kept .1 .1 .1 .1 .1 .1 .0) (c .before .before .before .before .before .before .before .before .lighten .kept .1 .1 .1 .1 .1 .1 .1 .0) (c .before .wide .ensures) (c .before .before .if1 .left), c .before .before .before .before .before .before .before .before .before .before .before .before .before .before .before .before .before .before .before .before .before .before .pre .0 .few, c .before .before .before .before .before .before .before .before .before .before .before .before .before .before .before .before .loop .inv .linked, c .before .before .before .before .before .before .before .before .before .before .before .before .before .before .before .before .loop .inv .told, c .before .before .before .before .before .before .before .before .before .before .before .before .before .before .before .before .loop .inv .tails, c .before .before .before .before .before .before .before .before .lighten .kept .1 .1 .1 .1 .1 .1 .0)
+slice-write-link-2 c =
+    let at-wide = c .before in
+    let at-if1 = at-wide .before in
+    let at-lighten = at-if1 .before .before .before .before .before .before in
+    let at-loop-test = at-lighten .before .before .before .before .before .before .before in
+    let at-loop = at-loop-test .before in
+    let at-pre = at-loop .before .before .before .before .before .before in
+    omega (
+      arith,
+      hand-inside (at-pre .pre .0) (at-loop .loop .inv) (at-loop-test .loop-test .taken) (at-lighten .lighten .ensures) (at-lighten .lighten .kept .1 .1 .1 .1 .1 .1 .0)
+          (at-lighten .lighten .kept .1 .1 .1 .1 .1 .1 .1 .0) (at-wide .wide .ensures) (at-if1 .if1 .left),
+      at-pre .pre .0 .few,
+      at-loop .loop .inv .linked,
+      at-loop .loop .inv .told,
+      at-loop .loop .inv .tails,
+      at-lighten .lighten .kept .1 .1 .1 .1 .1 .1 .0,
+    )
 
 mul-link-3 : tie.Need-mul-link-3 Inv-loop μ-loop
 mul-link-3 c = search needs
 
 slice-write-link-3 : tie.Need-slice-write-link-3 Inv-loop μ-loop
-slice-write-link-3 c = rw length-set (omega (arith, c .before .before .before .before .before .before .before .before .before .before .before .before .before .before .before .loop-test .taken, c .before .before .before .before .before .before .before .before .before .before .before .before .before .before .before .before .before .before .before .before .before .before .pre .0 .few, c .before .before .before .before .before .before .before .before .before .before .before .before .before .before .before .before .loop .inv .linked, c .before .before .before .before .before .before .before .before .before .before .before .before .before .before .before .before .loop .inv .told, c .before .before .before .before .before .before .before .before .before .before .before .before .before .before .before .before .loop .inv .tails, c .before .before .before .before .before .before .before .before .lighten .kept .1 .1 .1 .1 .1 .1 .0))
+slice-write-link-3 c =
+    let at-lighten = c .before .before .before .before .before .before .before .before in
+    let at-loop-test = at-lighten .before .before .before .before .before .before .before in
+    let at-loop = at-loop-test .before in
+    let at-pre = at-loop .before .before .before .before .before .before in
+    rw length-set (omega (arith, at-loop-test .loop-test .taken, at-pre .pre .0 .few, at-loop .loop .inv .linked, at-loop .loop .inv .told, at-loop .loop .inv .tails, at-lighten .lighten .kept .1 .1 .1 .1 .1 .1 .0))
 
 mul-carried-2 : tie.Need-mul-carried-2 Inv-loop μ-loop
-mul-carried-2 c = omega (arith, hand-inside (c .before .before .before .before .before .before .before .before .before .before .before .before .before .before .before .before .before .before .before .before .before .before .pre .0) (c .before .before .before .before .before .before .before .before .before .before .before .before .before .before .before .before .loop .inv) (c .before .before .before .before .before .before .before .before .before .before .before .before .before .before .before .loop-test .taken) (c .before .before .before .before .before .before .before .before .lighten .ensures) (c .before .before .before .before .before .before .before .before .lighten .kept .1 .1 .1 .1 .1 .1 .0) (c .before .before .before .before .before .before .before .before .lighten .kept .1 .1 .1 .1 .1 .1 .1 .0) (c .before .wide .ensures) (c .before .before .if1 .left), c .before .before .before .before .before .before .before .before .before .before .before .before .before .before .before .before .before .before .before .before .before .before .pre .0 .few, c .before .before .before .before .before .before .before .before .before .before .before .before .before .before .before .before .loop .inv .linked, c .before .before .before .before .before .before .before .before .before .before .before .before .before .before .before .before .loop .inv .told, c .before .before .before .before .before .before .before .before .before .before .before .before .before .before .before .before .loop .inv .tails, c .before .before .before .before .before .before .before .before .lighten .kept .1 .1 .1 .1 .1 .1 .0)
+mul-carried-2 c =
+    let at-wide = c .before in
+    let at-if1 = at-wide .before in
+    let at-lighten = at-if1 .before .before .before .before .before .before in
+    let at-loop-test = at-lighten .before .before .before .before .before .before .before in
+    let at-loop = at-loop-test .before in
+    let at-pre = at-loop .before .before .before .before .before .before in
+    omega (
+      arith,
+      hand-inside (at-pre .pre .0) (at-loop .loop .inv) (at-loop-test .loop-test .taken) (at-lighten .lighten .ensures) (at-lighten .lighten .kept .1 .1 .1 .1 .1 .1 .0)
+          (at-lighten .lighten .kept .1 .1 .1 .1 .1 .1 .1 .0) (at-wide .wide .ensures) (at-if1 .if1 .left),
+      at-pre .pre .0 .few,
+      at-loop .loop .inv .linked,
+      at-loop .loop .inv .told,
+      at-loop .loop .inv .tails,
+      at-lighten .lighten .kept .1 .1 .1 .1 .1 .1 .0,
+    )
 
 slice-read-carried : tie.Need-slice-read-carried Inv-loop μ-loop
-slice-read-carried c = rw length-set (omega (arith, hand-inside (c .before .before .before .before .before .before .before .before .before .before .before .before .before .before .before .before .before .before .before .before .before .before .before .pre .0) (c .before .before .before .before .before .before .before .before .before .before .before .before .before .before .before .before .before .loop .inv) (c .before .before .before .before .before .before .before .before .before .before .before .before .before .before .before .before .loop-test .taken) (c .before .before .before .before .before .before .before .before .before .lighten .ensures) (c .before .before .before .before .before .before .before .before .before .lighten .kept .1 .1 .1 .1 .1 .1 .0) (c .before .before .before .before .before .before .before .before .before .lighten .kept .1 .1 .1 .1 .1 .1 .1 .0) (c .before .before .wide .ensures) (c .before .before .before .if1 .left), c .before .before .before .before .before .before .before .before .before .before .before .before .before .before .before .before .before .before .before .before .before .before .before .pre .0 .few, c .before .before .before .before .before .before .before .before .before .before .before .before .before .before .before .before .before .loop .inv .linked, c .before .before .before .before .before .before .before .before .before .before .before .before .before .before .before .before .before .loop .inv .told, c .before .before .before .before .before .before .before .before .before .before .before .before .before .before .before .before .before .loop .inv .tails, c .before .before .before .before .before .before .before .before .before .lighten .kept .1 .1 .1 .1 .1 .1 .0))
+slice-read-carried c =
+    let at-wide = c .before .before in
+    let at-if1 = at-wide .before in
+    let at-lighten = at-if1 .before .before .before .before .before .before in
+    let at-loop-test = at-lighten .before .before .before .before .before .before .before in
+    let at-loop = at-loop-test .before in
+    let at-pre = at-loop .before .before .before .before .before .before in
+    rw length-set (omega (
+      arith,
+      hand-inside (at-pre .pre .0) (at-loop .loop .inv) (at-loop-test .loop-test .taken) (at-lighten .lighten .ensures) (at-lighten .lighten .kept .1 .1 .1 .1 .1 .1 .0)
+          (at-lighten .lighten .kept .1 .1 .1 .1 .1 .1 .1 .0) (at-wide .wide .ensures) (at-if1 .if1 .left),
+      at-pre .pre .0 .few,
+      at-loop .loop .inv .linked,
+      at-loop .loop .inv .told,
+      at-loop .loop .inv .tails,
+      at-lighten .lighten .kept .1 .1 .1 .1 .1 .1 .0,
+    ))
 
 add-carried : tie.Need-add-carried Inv-loop μ-loop
-add-carried c = omega (arith, hand-fits (c .before .before .before .before .before .before .before .before .before .before .before .before .before .before .before .before .before .before .before .before .before .before .before .pre .0) (c .before .before .before .before .before .before .before .before .before .before .before .before .before .before .before .before .before .loop .inv) (c .before .before .before .before .before .before .before .before .before .before .before .before .before .before .before .before .loop-test .taken) (c .before .before .before .before .before .before .before .before .before .lighten .ensures) (c .before .before .before .before .before .before .before .before .before .lighten .kept .1 .1 .1 .1 .1 .1 .0) (c .before .before .before .before .before .before .before .before .before .lighten .kept .1 .1 .1 .1 .1 .1 .1 .0) (c .before .before .wide .ensures) (c .before .before .before .if1 .left))
+add-carried c =
+    let at-wide = c .before .before in
+    let at-if1 = at-wide .before in
+    let at-lighten = at-if1 .before .before .before .before .before .before in
+    let at-loop-test = at-lighten .before .before .before .before .before .before .before in
+    let at-loop = at-loop-test .before in
+    let at-pre = at-loop .before .before .before .before .before .before in
+    omega (
+      arith,
+      hand-fits (at-pre .pre .0) (at-loop .loop .inv) (at-loop-test .loop-test .taken) (at-lighten .lighten .ensures) (at-lighten .lighten .kept .1 .1 .1 .1 .1 .1 .0)
+          (at-lighten .lighten .kept .1 .1 .1 .1 .1 .1 .1 .0) (at-wide .wide .ensures) (at-if1 .if1 .left),
+    )
 
 slice-write-carried-2 : tie.Need-slice-write-carried-2 Inv-loop μ-loop
-slice-write-carried-2 c = rw length-set (omega (arith, hand-inside (c .before .before .before .before .before .before .before .before .before .before .before .before .before .before .before .before .before .before .before .before .before .before .before .pre .0) (c .before .before .before .before .before .before .before .before .before .before .before .before .before .before .before .before .before .loop .inv) (c .before .before .before .before .before .before .before .before .before .before .before .before .before .before .before .before .loop-test .taken) (c .before .before .before .before .before .before .before .before .before .lighten .ensures) (c .before .before .before .before .before .before .before .before .before .lighten .kept .1 .1 .1 .1 .1 .1 .0) (c .before .before .before .before .before .before .before .before .before .lighten .kept .1 .1 .1 .1 .1 .1 .1 .0) (c .before .before .wide .ensures) (c .before .before .before .if1 .left), c .before .before .before .before .before .before .before .before .before .before .before .before .before .before .before .before .before .before .before .before .before .before .before .pre .0 .few, c .before .before .before .before .before .before .before .before .before .before .before .before .before .before .before .before .before .loop .inv .linked, c .before .before .before .before .before .before .before .before .before .before .before .before .before .before .before .before .before .loop .inv .told, c .before .before .before .before .before .before .before .before .before .before .before .before .before .before .before .before .before .loop .inv .tails, c .before .before .before .before .before .before .before .before .before .lighten .kept .1 .1 .1 .1 .1 .1 .0))
+slice-write-carried-2 c =
+    let at-wide = c .before .before in
+    let at-if1 = at-wide .before in
+    let at-lighten = at-if1 .before .before .before .before .before .before in
+    let at-loop-test = at-lighten .before .before .before .before .before .before .before in
+    let at-loop = at-loop-test .before in
+    let at-pre = at-loop .before .before .before .before .before .before in
+    rw length-set (omega (
+      arith,
+      hand-inside (at-pre .pre .0) (at-loop .loop .inv) (at-loop-test .loop-test .taken) (at-lighten .lighten .ensures) (at-lighten .lighten .kept .1 .1 .1 .1 .1 .1 .0)
+          (at-lighten .lighten .kept .1 .1 .1 .1 .1 .1 .1 .0) (at-wide .wide .ensures) (at-if1 .if1 .left),
+      at-pre .pre .0 .few,
+      at-loop .loop .inv .linked,
+      at-loop .loop .inv .told,
+      at-loop .loop .inv .tails,
+      at-lighten .lighten .kept .1 .1 .1 .1 .1 .1 .0,
+    ))
 
 add-x : tie.Need-add-x Inv-loop μ-loop
 add-x c = search needs
@@ -113,9 +246,14 @@ loop-less c = search needs
 
 loop-again : tie.Need-loop-again Inv-loop μ-loop
 loop-again c =
+    let at-lighten = c .before .before .before .before .before .before in
+    let at-loop-test = at-lighten .before .before .before .before .before .before .before in
+    let at-loop = at-loop-test .before in
+    let at-pre = at-loop .before .before .before .before .before .before in
     ⊎-elim
-    (λ v. step-root (c .before .before .before .before .before .before .before .before .before .before .before .before .before .before .before .before .before .before .before .before .pre .0) (c .before .before .before .before .before .before .before .before .before .before .before .before .before .before .loop .inv) (c .before .before .before .before .before .before .before .before .before .before .before .before .before .loop-test .taken) (c .before .before .before .before .before .before .lighten .ensures) (c .before .before .before .before .before .before .lighten .kept .1 .1 .1 .1 .1 .1 .0) (c .before .before .before .before .before .before .lighten .kept .1 .1 .1 .1 .1 .1 .1 .0) (v .0 .taken) (v .1) (v .2) (v .3))
-    (λ v. step-child (c .before .before .before .before .before .before .before .before .before .before .before .before .before .before .before .before .before .before .before .before .pre .0) (c .before .before .before .before .before .before .before .before .before .before .before .before .before .before .loop .inv) (c .before .before .before .before .before .before .before .before .before .before .before .before .before .loop-test .taken) (c .before .before .before .before .before .before .lighten .ensures) (c .before .before .before .before .before .before .lighten .kept .1 .1 .1 .1 .1 .1 .0) (c .before .before .before .before .before .before .lighten .kept .1 .1 .1 .1 .1 .1 .1 .0) (v .1 .ensures) (v .0 .left) (v .4) (v .5) (v .6))
+    (λ v. step-root (at-pre .pre .0) (at-loop .loop .inv) (at-loop-test .loop-test .taken) (at-lighten .lighten .ensures) (at-lighten .lighten .kept .1 .1 .1 .1 .1 .1 .0) (at-lighten .lighten .kept .1 .1 .1 .1 .1 .1 .1 .0) (v .0 .taken) (v .1) (v .2) (v .3))
+    (λ v. step-child (at-pre .pre .0) (at-loop .loop .inv) (at-loop-test .loop-test .taken) (at-lighten .lighten .ensures) (at-lighten .lighten .kept .1 .1 .1 .1 .1 .1 .0)
+    (at-lighten .lighten .kept .1 .1 .1 .1 .1 .1 .1 .0) (v .1 .ensures) (v .0 .left) (v .4) (v .5) (v .6))
     (c .if1 .came)
 
 same-length : tie.Need-same-length Inv-loop μ-loop

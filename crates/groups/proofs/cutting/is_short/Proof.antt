@@ -20,10 +20,17 @@ wide-requires : tie.Need-wide-requires Inv-loop μ-loop
 wide-requires c κs = search needs
 
 mul-child : tie.Need-mul-child Inv-loop μ-loop
-mul-child c = omega (arith, c .wide .ensures, listed-inside (c .before .before .before .loop .inv) (c .before .before .loop-test .taken), c .before .before .before .loop .inv .few)
+mul-child c =
+    let at-loop-test = c .before .before in
+    let at-loop = at-loop-test .before in
+    omega (arith, c .wide .ensures, listed-inside (at-loop .loop .inv) (at-loop-test .loop-test .taken), at-loop .loop .inv .few)
 
 shared-slice-read-child : tie.Need-shared-slice-read-child Inv-loop μ-loop
-shared-slice-read-child c = omega (arith, c .before .wide .ensures, listed-inside (c .before .before .before .before .loop .inv) (c .before .before .before .loop-test .taken))
+shared-slice-read-child c =
+    let at-wide = c .before in
+    let at-loop-test = at-wide .before .before in
+    let at-loop = at-loop-test .before in
+    omega (arith, at-wide .wide .ensures, listed-inside (at-loop .loop .inv) (at-loop-test .loop-test .taken))
 
 add-count : tie.Need-add-count Inv-loop μ-loop
 add-count c = omega (arith, ltb-true (c .before .before .before .before .loop .count) 32 (c .before .before .if1 .taken))
@@ -32,7 +39,11 @@ loop-less : tie.Need-loop-less Inv-loop μ-loop
 loop-less c = omega (arith, ltb-true (c .before .before .before .before .loop .count) 32 (c .before .before .if1 .taken))
 
 loop-again : tie.Need-loop-again Inv-loop μ-loop
-loop-again c = rw (c .before .wide .ensures) (listed-on (c .before .before .before .before .loop .inv) (c .before .before .before .loop-test .taken))
+loop-again c =
+    let at-wide = c .before in
+    let at-loop-test = at-wide .before .before in
+    let at-loop = at-loop-test .before in
+    rw (at-wide .wide .ensures) (listed-on (at-loop .loop .inv) (at-loop-test .loop-test .taken))
 
 returns : tie.Need-returns Inv-loop μ-loop
 returns c = search needs

@@ -21,7 +21,9 @@ slice-aggregate-lighten-by-class : tie.Need-slice-aggregate-lighten-by-class
 slice-aggregate-lighten-by-class c = search needs
 
 lighten-by-class-requires : tie.Need-lighten-by-class-requires
-lighten-by-class-requires c κs = (c .before .before .before .before .before .before .before .before .before .before .pre .0, (c .before .before .before .before .before .before .before .before .before .before .pre .1, unfiled 1 (omega arith) (omega arith)))
+lighten-by-class-requires c κs =
+    let at-pre = c .before .before .before .before .before .before .before .before .before .before in
+    (at-pre .pre .0, (at-pre .pre .1, unfiled 1 (omega arith) (omega arith)))
 
 same-length : tie.Need-same-length
 same-length c = search needs
@@ -36,7 +38,9 @@ slice-aggregate-lighten-by-class-2 : tie.Need-slice-aggregate-lighten-by-class-2
 slice-aggregate-lighten-by-class-2 c = search needs
 
 lighten-by-class-requires-2 : tie.Need-lighten-by-class-requires-2
-lighten-by-class-requires-2 c κs = (c .before .before .before .before .before .before .before .before .before .before .pre .0, (c .before .before .before .before .before .before .before .before .before .before .pre .1, unfiled 640 (omega arith) (omega arith)))
+lighten-by-class-requires-2 c κs =
+    let at-pre = c .before .before .before .before .before .before .before .before .before .before in
+    (at-pre .pre .0, (at-pre .pre .1, unfiled 640 (omega arith) (omega arith)))
 
 same-length-3 : tie.Need-same-length-3
 same-length-3 c = search needs

@@ -26,10 +26,19 @@ wide-requires : tie.Need-wide-requires Inv-loop μ-loop
 wide-requires c κs = search needs
 
 mul-link : tie.Need-mul-link Inv-loop μ-loop
-mul-link c = omega (arith, climb-inside (c .before .before .before .before .before .pre) (c .before .before .before .loop .inv) (c .before .before .loop-test .taken) (c .wide .ensures))
+mul-link c =
+    let at-loop-test = c .before .before in
+    let at-loop = at-loop-test .before in
+    let at-pre = at-loop .before .before in
+    omega (arith, climb-inside (at-pre .pre) (at-loop .loop .inv) (at-loop-test .loop-test .taken) (c .wide .ensures))
 
 slice-read-link : tie.Need-slice-read-link Inv-loop μ-loop
-slice-read-link c = climb-inside (c .before .before .before .before .before .before .pre) (c .before .before .before .before .loop .inv) (c .before .before .before .loop-test .taken) (c .before .wide .ensures)
+slice-read-link c =
+    let at-wide = c .before in
+    let at-loop-test = at-wide .before .before in
+    let at-loop = at-loop-test .before in
+    let at-pre = at-loop .before .before in
+    climb-inside (at-pre .pre) (at-loop .loop .inv) (at-loop-test .loop-test .taken) (at-wide .wide .ensures)
 
 mul-link-2 : tie.Need-mul-link-2 Inv-loop μ-loop
 mul-link-2 c = search needs
@@ -41,7 +50,12 @@ loop-less : tie.Need-loop-less Inv-loop μ-loop
 loop-less c = search needs
 
 loop-again : tie.Need-loop-again Inv-loop μ-loop
-loop-again c = climbing-more (c .before .before .before .before .before .before .pre) (c .before .before .before .before .loop .inv) (c .before .before .before .loop-test .taken) (c .before .wide .ensures)
+loop-again c =
+    let at-wide = c .before in
+    let at-loop-test = at-wide .before .before in
+    let at-loop = at-loop-test .before in
+    let at-pre = at-loop .before .before in
+    climbing-more (at-pre .pre) (at-loop .loop .inv) (at-loop-test .loop-test .taken) (at-wide .wide .ensures)
 
 same-length : tie.Need-same-length Inv-loop μ-loop
 same-length c = search needs

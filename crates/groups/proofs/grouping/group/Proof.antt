@@ -14,16 +14,23 @@ fill-requires-2 : tie.Need-fill-requires-2
 fill-requires-2 c κs = search needs
 
 cut-requires : tie.Need-cut-requires
-cut-requires c κs = (
-  c .before .before .before .before .before .before .before .before .before .before .before .before .before .before .before .before .pre .0,
-  (
-    (c .before .before .before .before .before .fill2 .ensures ∙ ap (λ (k : ℕ). replicate k 0) (c .before .before .before .before .before .before .before .before .before .before .before .before .before .before .before .before .pre .1 .0), c .before .before .before .before .before .before .before .before .before .fill .ensures ∙ ap (λ (k : ℕ). replicate k absent) (c .before .before .before .before .before .before .before .before .before .before .before .before .before .before .before .before .pre .1 .1)),
-    c .before .before .before .before .before .before .before .before .before .before .before .before .before .before .before .before .pre .1 .2,
-  ),
-)
+cut-requires c κs =
+    let at-fill2 = c .before .before .before .before .before in
+    let at-fill = at-fill2 .before .before .before .before in
+    let at-pre = at-fill .before .before .before .before .before .before .before in (
+      at-pre .pre .0,
+      (
+        (at-fill2 .fill2 .ensures ∙ ap (λ (k : ℕ). replicate k 0) (at-pre .pre .1 .0), at-fill .fill .ensures ∙ ap (λ (k : ℕ). replicate k absent) (at-pre .pre .1 .1)),
+        at-pre .pre .1 .2,
+      ),
+    )
 
 find-tops-requires : tie.Need-find-tops-requires
-find-tops-requires c κs = cuts-hanging (c .before .before .before .before .before .before .before .before .before .before .before .before .before .before .before .before .before .before .before .before .before .before .before .before .pre .0) (c .before .before .before .before .before .before .before .cut .ensures) (c .before .before .before .before .before .before .before .cut .kept .1 .1 .1 .1 .0 ∙ c .before .before .before .before .before .before .before .before .before .before .before .before .before .before .before .before .before .fill .kept .0 ∙ c .before .before .before .before .before .before .before .before .before .before .before .before .before .before .before .before .before .before .before .before .before .before .before .before .pre .1 .1)
+find-tops-requires c κs =
+    let at-cut = c .before .before .before .before .before .before .before in
+    let at-fill = at-cut .before .before .before .before .before .before .before .before .before .before in
+    let at-pre = at-fill .before .before .before .before .before .before .before in
+    cuts-hanging (at-pre .pre .0) (at-cut .cut .ensures) (at-cut .cut .kept .1 .1 .1 .1 .0 ∙ at-fill .fill .kept .0 ∙ at-pre .pre .1 .1)
 
 same-length : tie.Need-same-length
 same-length c = search needs
@@ -35,7 +42,12 @@ same-length-3 : tie.Need-same-length-3
 same-length-3 c = search needs
 
 returns : tie.Need-returns
-returns c = cuts-grouped (c .before .before .before .before .before .before .before .before .before .before .before .before .before .before .before .before .before .before .before .before .before .before .before .before .before .before .before .pre .0) (c .before .before .before .before .before .before .before .before .before .before .cut .ensures) (c .before .before .before .before .before .before .before .before .before .before .cut .kept .1 .1 .1 .1 .0 ∙ c .before .before .before .before .before .before .before .before .before .before .before .before .before .before .before .before .before .before .before .before .fill .kept .0 ∙ c .before .before .before .before .before .before .before .before .before .before .before .before .before .before .before .before .before .before .before .before .before .before .before .before .before .before .before .pre .1 .1) (c .before .before .find-tops .ensures) (c .before .before .find-tops .kept .0)
+returns c =
+    let at-find-tops = c .before .before in
+    let at-cut = at-find-tops .before .before .before .before .before .before .before .before in
+    let at-fill = at-cut .before .before .before .before .before .before .before .before .before .before in
+    let at-pre = at-fill .before .before .before .before .before .before .before in
+    cuts-grouped (at-pre .pre .0) (at-cut .cut .ensures) (at-cut .cut .kept .1 .1 .1 .1 .0 ∙ at-fill .fill .kept .0 ∙ at-pre .pre .1 .1) (at-find-tops .find-tops .ensures) (at-find-tops .find-tops .kept .0)
 
 pub group-spec : {M : Type 1} → statement M
 group-spec =

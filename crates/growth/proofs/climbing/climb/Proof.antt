@@ -39,15 +39,20 @@ step-requires c κs =
     (omega (arith, t .same), omega (arith, t .same), subst (λ (m : ℕ). Upward m (c .before .before .before .loop .jump)) (sym (t .same)) (t .upward))
 
 loop-less : tie.Need-loop-less Inv-loop μ-loop
-loop-less c = omega (arith, c .before .before .before .before .before .before .before .loop-test .taken, c .before .before .before .before .step .ensures .0 .higher (c .before .before .before .before .before .before .before .loop-test .taken))
+loop-less c =
+    let at-step = c .before .before .before .before in
+    let at-loop-test = at-step .before .before .before in
+    omega (arith, at-loop-test .loop-test .taken, at-step .step .ensures .0 .higher (at-loop-test .loop-test .taken))
 
 loop-again : tie.Need-loop-again Inv-loop μ-loop
 loop-again c =
-    let t = c .before .before .before .before .before .before .before .before .loop .inv in
-    let (k, m) = c .before .before .before .before .step .ensures in
+    let at-step = c .before .before .before .before in
+    let at-loop = at-step .before .before .before .before in
+    let t = at-loop .loop .inv in
+    let (k, m) = at-step .step .ensures in
     record {
-      same = c .before .before .before .before .step .kept .1 .1 .0 ∙ t .same;
-      upward = subst (λ (m : ℕ). Upward m (c .before .before .before .before .step .last .1 .1 .1 .0)) (t .same) (k .upward);
+      same = at-step .step .kept .1 .1 .0 ∙ t .same;
+      upward = subst (λ (m : ℕ). Upward m (at-step .step .last .1 .1 .1 .0)) (t .same) (k .upward);
       untouched = untouched-on (t .untouched) (k .untouched);
       moves = moves-on (t .moves) m;
       climbing = λ E ws s e. climb-next (t .same) k (t .climbing E ws s e);

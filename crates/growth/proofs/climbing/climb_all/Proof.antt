@@ -57,8 +57,9 @@ slice-write-vertices c = search needs
 
 climb-requires : tie.Need-climb-requires Inv-loop μ-loop
 climb-requires c κs =
-    let t = c .before .before .before .before .before .loop .inv in
-    (omega (arith, t .same), omega (arith, t .same), subst (λ (m : ℕ). Upward m (c .before .before .before .before .before .loop .jump)) (sym (t .same)) (t .upward))
+    let at-loop = c .before .before .before .before .before in
+    let t = at-loop .loop .inv in
+    (omega (arith, t .same), omega (arith, t .same), subst (λ (m : ℕ). Upward m (at-loop .loop .jump)) (sym (t .same)) (t .upward))
 
 add-i : tie.Need-add-i Inv-loop μ-loop
 add-i c = search needs
@@ -68,17 +69,22 @@ loop-less c = search needs
 
 loop-again : tie.Need-loop-again Inv-loop μ-loop
 loop-again c =
-    let t = c .before .before .before .before .before .before .before .before .before .before .loop .inv in
-    let k = c .before .before .before .before .climb .ensures .0 in
-    let here : c .before .before .before .before .before .before .before .before .before .before .loop .i < length (c .before .before .before .before .before .before .before .before .before .before .loop .vertices) = c .before .before .before .before .before .before .before .before .before .loop-test .taken in
-    let inside : c .before .before .before .before .before .before .before .before .before .before .loop .i < length (c .before .before .before .before .before .before .before .before .before .before .before .before .before .before .args .vertices .now) = omega (arith, t .reading .long) in
+    let at-climb = c .before .before .before .before in
+    let at-left = at-climb .before .before .before in
+    let at-loop-test = at-left .before .before in
+    let at-loop = at-loop-test .before in
+    let at-args = at-loop .before .before .before .before in
+    let t = at-loop .loop .inv in
+    let k = at-climb .climb .ensures .0 in
+    let here : at-loop .loop .i < length (at-loop .loop .vertices) = at-loop-test .loop-test .taken in
+    let inside : at-loop .loop .i < length (at-args .args .vertices .now) = omega (arith, t .reading .long) in
     let u = read-ahead (t .reading) here in
     record {
-      same = c .before .before .before .before .climb .kept .1 .1 .0 ∙ t .same;
-      upward = subst (λ (m : ℕ). Upward m (c .before .before .before .before .climb .last .1 .1 .1 .0)) (t .same) (k .upward);
-      reading = read-turn (t .reading) here u (c .before .before .before .before .before .before .before .left .ensures);
+      same = at-climb .climb .kept .1 .1 .0 ∙ t .same;
+      upward = subst (λ (m : ℕ). Upward m (at-climb .climb .last .1 .1 .1 .0)) (t .same) (k .upward);
+      reading = read-turn (t .reading) here u (at-left .left .ensures);
       untouched = untouched-on (t .untouched) (k .untouched);
-      moves = moves-on (t .moves) (c .before .before .before .before .climb .ensures .1);
+      moves = moves-on (t .moves) (at-climb .climb .ensures .1);
       climbed = λ E s o. climbs-next (t .same) inside u k o (t .climbed E s o);
     }
 

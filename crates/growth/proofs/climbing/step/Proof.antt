@@ -38,12 +38,16 @@ same-length-2 c = search needs
 
 returns-2 : tie.Need-returns-2
 returns-2 c =
-    let (top, few, up) = c .before .before .before .before .before .before .before .before .before .pre in
-    let low : c .before .before .before .before .before .before .before .before .before .args .w < c .before .before .before .before .before .before .before .before .before .args .y = omega (arith, c .before .before .before .before .before .before .if1 .left) in
-    let none = c .before .before .before .before .if2 .taken in
-    let real : c .before .before .before .before .before .before .before .before .before .args .y ≢ absent = omega (arith, top, few) in
-    let inside : c .before .before .before .before .before .before .before .before .before .args .w < length (c .before .before .before .before .before .before .before .before .before .args .jump .now) = omega (arith, low, top, up .long) in
-    rw (c .before .before .link .ensures .0, c .before .before .link .ensures .1) (
+    let at-link = c .before .before in
+    let at-if2 = at-link .before .before in
+    let at-if1 = at-if2 .before .before in
+    let at-pre = at-if1 .before .before .before in
+    let (top, few, up) = at-pre .pre in
+    let low : at-pre .args .w < at-pre .args .y = omega (arith, at-if1 .if1 .left) in
+    let none = at-if2 .if2 .taken in
+    let real : at-pre .args .y ≢ absent = omega (arith, top, few) in
+    let inside : at-pre .args .w < length (at-pre .args .jump .now) = omega (arith, low, top, up .long) in
+    rw (at-link .link .ensures .0, at-link .link .ensures .1) (
       record {
         higher = λ h. h;
         upward = upward-set _ _ low up;
@@ -58,10 +62,12 @@ same-length-3 c = search needs
 
 returns-3 : tie.Need-returns-3
 returns-3 c =
-    let (top, few, up) = c .before .before .before .before .before .pre in
-    let low : c .before .before .before .before .before .args .w < c .before .before .before .before .before .args .y = omega (arith, c .before .before .if1 .left) in
-    let real : c .before .before .before .before .before .args .y ≢ absent = omega (arith, top, few) in
-    let inside : c .before .before .before .before .before .args .w < length (c .before .before .before .before .before .args .jump .now) = omega (arith, low, top, up .long) in (
+    let at-if1 = c .before .before in
+    let at-pre = at-if1 .before .before .before in
+    let (top, few, up) = at-pre .pre in
+    let low : at-pre .args .w < at-pre .args .y = omega (arith, at-if1 .if1 .left) in
+    let real : at-pre .args .y ≢ absent = omega (arith, top, few) in
+    let inside : at-pre .args .w < length (at-pre .args .jump .now) = omega (arith, low, top, up .long) in (
       record {
         higher = λ h. upward-next _ up (omega (arith, low, top)) (c .if2 .left);
         upward = upward-set _ _ low up;

@@ -55,13 +55,17 @@ slice-read-u c = search needs
 
 weigh-requires : tie.Need-weigh-requires Inv-loop μ-loop
 weigh-requires c κs =
-    let t = c .before .before .before .loop .inv in
-    λ v h. omega (arith, weighs-room (t .weighed) v (omega (arith, t .weighed .long)), c .before .before .before .before .before .before .before .before .pre .3 .light v (omega (arith, t .weighed .long)), c .before .before .loop-test .taken, t .long, length-take (c .before .before .before .loop .i) (c .before .before .before .before .before .before .before .before .args .bucket .now))
+    let at-loop-test = c .before .before in
+    let at-loop = at-loop-test .before in
+    let at-pre = at-loop .before .before .before .before .before in
+    let t = at-loop .loop .inv in
+    λ v h. omega (arith, weighs-room (t .weighed) v (omega (arith, t .weighed .long)), at-pre .pre .3 .light v (omega (arith, t .weighed .long)), at-loop-test .loop-test .taken, t .long, length-take (at-loop .loop .i) (at-pre .args .bucket .now))
 
 step-requires : tie.Need-step-requires Inv-loop μ-loop
 step-requires c κs =
-    let t = c .before .before .before .before .before .before .before .before .loop .inv in
-    (omega (arith, t .same), omega (arith, t .same), subst (λ (m : ℕ). Upward m (c .before .before .before .before .before .before .before .before .loop .jump)) (sym (t .same)) (t .upward))
+    let at-loop = c .before .before .before .before .before .before .before .before in
+    let t = at-loop .loop .inv in
+    (omega (arith, t .same), omega (arith, t .same), subst (λ (m : ℕ). Upward m (at-loop .loop .jump)) (sym (t .same)) (t .upward))
 
 mul-bucket : tie.Need-mul-bucket Inv-loop μ-loop
 mul-bucket c = search needs
@@ -77,20 +81,25 @@ loop-less c = search needs
 
 loop-again : tie.Need-loop-again Inv-loop μ-loop
 loop-again c =
-    let t = c .before .before .before .before .before .before .before .before .before .before .before .before .before .loop .inv in
-    let k = c .before .before .before .before .step .ensures .0 in
-    let here : c .before .before .before .before .before .before .before .before .before .before .before .before .before .loop .i < length (c .before .before .before .before .before .before .before .before .before .before .before .before .before .loop .bucket) = c .before .before .before .before .before .before .before .before .before .before .before .before .loop-test .taken in
-    let inside : c .before .before .before .before .before .before .before .before .before .before .before .before .before .loop .i < length (c .before .before .before .before .before .before .before .before .before .before .before .before .before .before .before .before .before .before .args .bucket .now) = omega (arith, t .long) in
-    let u = t .ahead (c .before .before .before .before .before .before .before .before .before .before .before .before .before .loop .i) (le-refl _) in
+    let at-step = c .before .before .before .before in
+    let at-weigh = at-step .before .before .before .before .before in
+    let at-loop-test = at-weigh .before .before .before in
+    let at-loop = at-loop-test .before in
+    let at-args = at-loop .before .before .before .before .before in
+    let t = at-loop .loop .inv in
+    let k = at-step .step .ensures .0 in
+    let here : at-loop .loop .i < length (at-loop .loop .bucket) = at-loop-test .loop-test .taken in
+    let inside : at-loop .loop .i < length (at-args .args .bucket .now) = omega (arith, t .long) in
+    let u = t .ahead (at-loop .loop .i) (le-refl _) in
     record {
-      same = c .before .before .before .before .step .kept .1 .1 .0 ∙ t .same;
-      upward = subst (λ (m : ℕ). Upward m (c .before .before .before .before .step .last .1 .1 .1 .0)) (t .same) (k .upward);
-      long = length-set (c .before .before .before .before .before .before .before .before .before .before .before .before .before .loop .bucket) _ _ ∙ t .long;
+      same = at-step .step .kept .1 .1 .0 ∙ t .same;
+      upward = subst (λ (m : ℕ). Upward m (at-step .step .last .1 .1 .1 .0)) (t .same) (k .upward);
+      long = length-set (at-loop .loop .bucket) _ _ ∙ t .long;
       inside = omega (arith, inside);
-      ahead = λ j h. getD-set-other (c .before .before .before .before .before .before .before .before .before .before .before .before .before .loop .bucket) _ j _ 0 (omega arith) ∙ t .ahead j (omega arith);
-      weighed = weighs-next _ _ (t .weighed) inside u (c .before .before .before .before .before .before .before .before .before .weigh .ensures);
+      ahead = λ j h. getD-set-other (at-loop .loop .bucket) _ j _ 0 (omega arith) ∙ t .ahead j (omega arith);
+      weighed = weighs-next _ _ (t .weighed) inside u (at-weigh .weigh .ensures);
       untouched = untouched-on (t .untouched) (k .untouched);
-      moves = moves-on (t .moves) (c .before .before .before .before .step .ensures .1);
+      moves = moves-on (t .moves) (at-step .step .ensures .1);
       begun = λ E s o. begin-next (t .same) here u k (o .offer _ inside) (t .begun E s o);
     }
 

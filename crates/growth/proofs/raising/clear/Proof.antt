@@ -36,7 +36,11 @@ same-length-3 c = search needs
 
 returns : tie.Need-returns
 returns c =
-    work-cleared _ _ _ (c .before .before .before .before .before .before .before .before .before .before .fill .ensures) (c .before .before .before .before .before .before .fill2 .ensures) (cleared-out _ _ (c .before .before .before .before .before .before .before .before .before .before .before .before .before .before .before .pre .0) (c .before .before .before .before .before .before .before .before .before .before .before .before .before .before .before .pre .1) (c .before .before .fill3 .ensures))
+    let at-fill3 = c .before .before in
+    let at-fill2 = at-fill3 .before .before .before .before in
+    let at-fill = at-fill2 .before .before .before .before in
+    let at-pre = at-fill .before .before .before .before .before in
+    work-cleared _ _ _ (at-fill .fill .ensures) (at-fill2 .fill2 .ensures) (cleared-out _ _ (at-pre .pre .0) (at-pre .pre .1) (at-fill3 .fill3 .ensures))
 
 pub clear-spec : {M : Type 1} → statement M
 clear-spec =

@@ -33,17 +33,21 @@ same-length-4 c = search needs
 
 returns : tie.Need-returns
 returns c =
-    let (k, m) = c .before .before .before .before .before .before .climb-all .ensures in
-    (record { upward = k .upward; leaves = k .leaves; weighed = c .before .before .before .before .before .before .before .before .before .before .before .before .weigh-all .ensures; untouched = k .untouched; gathered = λ E s o. gather-whole k s o }, m)
+    let at-climb-all = c .before .before .before .before .before .before in
+    let at-weigh-all = at-climb-all .before .before .before .before .before .before in
+    let (k, m) = at-climb-all .climb-all .ensures in
+    (record { upward = k .upward; leaves = k .leaves; weighed = at-weigh-all .weigh-all .ensures; untouched = k .untouched; gathered = λ E s o. gather-whole k s o }, m)
 
 step-all-requires : tie.Need-step-all-requires
 step-all-requires c κs = search needs
 
 climb-all-requires-2 : tie.Need-climb-all-requires-2
 climb-all-requires-2 c κs =
-    let (top, few, up, light) = c .before .before .before .before .before .before .before .before .before .before .before .before .before .before .before .before .before .before .before .before .before .pre in
-    let same = c .before .before .before .before .before .before .before .before .before .before .before .step-all .kept .1 .1 .1 .0 in
-    (omega (arith, top, same), omega (arith, few, same), subst (λ (m : ℕ). Upward m (c .before .before .before .before .before .before .before .before .before .before .before .step-all .last .1 .1 .1 .1 .0)) (sym same) (c .before .before .before .before .before .before .before .before .before .before .before .step-all .ensures .0 .upward))
+    let at-step-all = c .before .before .before .before .before .before .before .before .before .before .before in
+    let at-pre = at-step-all .before .before .before .before .before .before .before .before .before .before in
+    let (top, few, up, light) = at-pre .pre in
+    let same = at-step-all .step-all .kept .1 .1 .1 .0 in
+    (omega (arith, top, same), omega (arith, few, same), subst (λ (m : ℕ). Upward m (at-step-all .step-all .last .1 .1 .1 .1 .0)) (sym same) (at-step-all .step-all .ensures .0 .upward))
 
 same-length-5 : tie.Need-same-length-5
 same-length-5 c = search needs
@@ -59,12 +63,15 @@ same-length-8 c = search needs
 
 returns-2 : tie.Need-returns-2
 returns-2 c =
-    let (b, l) = c .before .before .before .before .before .before .before .before .before .before .before .before .before .before .before .before .before .before .step-all .ensures in
-    let (k, m) = c .before .before .before .before .before .before .climb-all2 .ensures in
-    let same = c .before .before .before .before .before .before .before .before .before .before .before .before .before .before .before .before .before .before .step-all .kept .1 .1 .1 .0 in (
+    let at-climb-all2 = c .before .before .before .before .before .before in
+    let at-step-all = at-climb-all2 .before .before .before .before .before .before .before .before .before .before .before .before in
+    let at-if1 = at-step-all .before .before .before .before .before in
+    let (b, l) = at-step-all .step-all .ensures in
+    let (k, m) = at-climb-all2 .climb-all2 .ensures in
+    let same = at-step-all .step-all .kept .1 .1 .1 .0 in (
       record {
-        upward = subst (λ (m : ℕ). Upward m (c .before .before .before .before .before .before .climb-all2 .last .1 .1 .1 .1 .0)) same (k .upward);
-        leaves = k .leaves ∙ left-alike _ _ (or-neither _ _ (c .before .before .before .before .before .before .before .before .before .before .before .before .before .before .before .before .before .before .before .before .before .before .before .if1 .left) .0) (b .long);
+        upward = subst (λ (m : ℕ). Upward m (at-climb-all2 .climb-all2 .last .1 .1 .1 .1 .0)) same (k .upward);
+        leaves = k .leaves ∙ left-alike _ _ (or-neither _ _ (at-if1 .if1 .left) .0) (b .long);
         weighed = b .weighed;
         untouched = untouched-on (b .untouched) (k .untouched);
         gathered = λ E s o. gather-begun same b k s o;

@@ -16,12 +16,14 @@ fill-requires c κs = search needs
 
 raise-requires : tie.Need-raise-requires
 raise-requires c κs =
-    let g = c .before .before .before .before .before .before .before .before .before .before .before .before .before .before .pre .0 in
+    let at-fill = c .before .before .before .before .before .before .before in
+    let at-pre = at-fill .before .before .before .before .before .before .before in
+    let g = at-pre .pre .0 in
     record {
       long = g .long;
-      blank-jump = c .before .before .before .before .before .before .before .fill .ensures ∙ ap (λ (n : ℕ). replicate n absent) (g .long-jump);
+      blank-jump = at-fill .fill .ensures ∙ ap (λ (n : ℕ). replicate n absent) (g .long-jump);
       buckets = g .buckets;
-      light = c .before .before .before .before .before .before .before .before .before .before .before .before .before .before .pre .1;
+      light = at-pre .pre .1;
     }
 
 clear-requires : tie.Need-clear-requires
@@ -46,13 +48,17 @@ same-length-5 c = search needs
 
 returns : tie.Need-returns
 returns c =
-    let r = c .before .before .before .before .before .before .before .before .before .before .before .before .before .before .before .before .before .before .raise .ensures .0 in
-    let g = c .before .before .before .before .before .before .before .before .before .before .before .before .before .before .before .before .before .before .before .before .before .before .before .before .before .before .before .before .before .before .before .before .before .pre .0 in (
+    let at-clear = c .before .before .before .before .before .before in
+    let at-raise = at-clear .before .before .before .before .before .before .before .before .before .before .before .before in
+    let at-fill = at-raise .before .before .before .before .before .before .before .before in
+    let at-pre = at-fill .before .before .before .before .before .before .before in
+    let r = at-raise .raise .ensures .0 in
+    let g = at-pre .pre .0 in (
       record {
-        grown = record { parents = λ E k f i. new-whole (omega (arith, g .buckets .few)) k (g .long) (c .before .before .before .before .before .before .before .before .before .before .before .before .before .before .before .before .before .before .raise .kept .0 ∙ g .long) i (r .untouched) (r .raised E k f); weighed = λ E f. weighs-graph f (r .last) (r .weighed) };
-        clear = c .before .before .before .before .before .before .clear .ensures ∙ same-room _ _ _ _ _ _ refl (c .before .before .before .before .before .before .before .before .before .before .before .before .before .before .before .before .before .before .raise .kept .1 .1 .1 .1 .0 ∙ c .before .before .before .before .before .before .before .before .before .before .before .before .before .before .before .before .before .before .before .before .before .before .before .before .before .before .fill .kept .0) (c .before .before .before .before .before .before .before .before .before .before .before .before .before .before .before .before .before .before .raise .kept .1 .1 .1 .1 .1 .0);
+        grown = record { parents = λ E k f i. new-whole (omega (arith, g .buckets .few)) k (g .long) (at-raise .raise .kept .0 ∙ g .long) i (r .untouched) (r .raised E k f); weighed = λ E f. weighs-graph f (r .last) (r .weighed) };
+        clear = at-clear .clear .ensures ∙ same-room _ _ _ _ _ _ refl (at-raise .raise .kept .1 .1 .1 .1 .0 ∙ at-fill .fill .kept .0) (at-raise .raise .kept .1 .1 .1 .1 .1 .0);
       },
-      moves-differ (c .before .before .before .before .before .before .before .before .before .before .before .before .before .before .before .before .before .before .raise .ensures .1),
+      moves-differ (at-raise .raise .ensures .1),
     )
 
 pub grow-spec : {M : Type 1} → statement M

@@ -14,12 +14,14 @@ fill-requires c κs = search needs
 
 raise-requires : tie.Need-raise-requires
 raise-requires c κs =
-    let g = c .before .before .before .before .before .before .before .before .before .before .before .before .before .pre .0 in
+    let at-fill = c .before .before .before .before .before .before in
+    let at-pre = at-fill .before .before .before .before .before .before .before in
+    let g = at-pre .pre .0 in
     record {
       long = g .long;
-      blank-jump = c .before .before .before .before .before .before .fill .ensures ∙ ap (λ (n : ℕ). replicate n absent) (g .long-jump);
+      blank-jump = at-fill .fill .ensures ∙ ap (λ (n : ℕ). replicate n absent) (g .long-jump);
       buckets = g .buckets;
-      light = c .before .before .before .before .before .before .before .before .before .before .before .before .before .pre .1;
+      light = at-pre .pre .1;
     }
 
 same-length : tie.Need-same-length
@@ -36,11 +38,13 @@ same-length-4 c = search needs
 
 returns : tie.Need-returns
 returns c =
-    let g = c .before .before .before .before .before .before .before .before .before .before .before .before .before .before .before .before .before .before .before .before .before .before .pre .0 in
-    let r = c .before .before .before .before .before .before .before .before .raise .ensures .0 in
+    let at-raise = c .before .before .before .before .before .before .before .before in
+    let at-pre = at-raise .before .before .before .before .before .before .before .before .before .before .before .before .before .before in
+    let g = at-pre .pre .0 in
+    let r = at-raise .raise .ensures .0 in
     record {
       grown = record {
-        parents = λ E k f i. new-whole (omega (arith, g .buckets .few)) k (g .long) (c .before .before .before .before .before .before .before .before .raise .kept .0 ∙ g .long) i (r .untouched) (r .raised E k f);
+        parents = λ E k f i. new-whole (omega (arith, g .buckets .few)) k (g .long) (at-raise .raise .kept .0 ∙ g .long) i (r .untouched) (r .raised E k f);
         weighed = λ E f. weighs-graph f (r .last) (r .weighed);
       };
       kept = read-kept (r .leaves);

@@ -72,44 +72,65 @@ mul-gather c = search needs
 
 sub-gather : tie.Need-sub-gather Inv-loop μ-loop
 sub-gather c =
-    let t = c .before .before .before .loop .inv in
-    let here : c .before .before .before .loop .y < length (c .before .before .before .before .before .before .before .before .before .args .ends .now) = c .before .before .loop-test .taken in
-    let b = c .before .before .before .before .before .before .before .before .before .pre .buckets in
-    let order : c .before .before .before .loop .at ≤ c .wide .result = omega (arith, t .start, b .rising _ here, c .wide .ensures) in
-    let room : c .wide .result ≤ length (c .before .before .before .loop .lower) = omega (arith, t .reading .long, b .room _ here, c .wide .ensures) in
+    let at-loop-test = c .before .before in
+    let at-loop = at-loop-test .before in
+    let at-args = at-loop .before .before .before .before .before .before in
+    let t = at-loop .loop .inv in
+    let here : at-loop .loop .y < length (at-args .args .ends .now) = at-loop-test .loop-test .taken in
+    let b = at-args .pre .buckets in
+    let order : at-loop .loop .at ≤ c .wide .result = omega (arith, t .start, b .rising _ here, c .wide .ensures) in
+    let room : c .wide .result ≤ length (at-loop .loop .lower) = omega (arith, t .reading .long, b .room _ here, c .wide .ensures) in
     omega (arith, order)
 
 part-gather-start : tie.Need-part-gather-start Inv-loop μ-loop
 part-gather-start c =
-    let t = c .before .before .before .loop .inv in
-    let here : c .before .before .before .loop .y < length (c .before .before .before .before .before .before .before .before .before .args .ends .now) = c .before .before .loop-test .taken in
-    let b = c .before .before .before .before .before .before .before .before .before .pre .buckets in
-    let order : c .before .before .before .loop .at ≤ c .wide .result = omega (arith, t .start, b .rising _ here, c .wide .ensures) in
-    let room : c .wide .result ≤ length (c .before .before .before .loop .lower) = omega (arith, t .reading .long, b .room _ here, c .wide .ensures) in
+    let at-loop-test = c .before .before in
+    let at-loop = at-loop-test .before in
+    let at-args = at-loop .before .before .before .before .before .before in
+    let t = at-loop .loop .inv in
+    let here : at-loop .loop .y < length (at-args .args .ends .now) = at-loop-test .loop-test .taken in
+    let b = at-args .pre .buckets in
+    let order : at-loop .loop .at ≤ c .wide .result = omega (arith, t .start, b .rising _ here, c .wide .ensures) in
+    let room : c .wide .result ≤ length (at-loop .loop .lower) = omega (arith, t .reading .long, b .room _ here, c .wide .ensures) in
     omega (arith, order)
 
 part-gather-end : tie.Need-part-gather-end Inv-loop μ-loop
 part-gather-end c =
-    let t = c .before .before .before .loop .inv in
-    let here : c .before .before .before .loop .y < length (c .before .before .before .before .before .before .before .before .before .args .ends .now) = c .before .before .loop-test .taken in
-    let b = c .before .before .before .before .before .before .before .before .before .pre .buckets in
-    let order : c .before .before .before .loop .at ≤ c .wide .result = omega (arith, t .start, b .rising _ here, c .wide .ensures) in
-    let room : c .wide .result ≤ length (c .before .before .before .loop .lower) = omega (arith, t .reading .long, b .room _ here, c .wide .ensures) in
+    let at-loop-test = c .before .before in
+    let at-loop = at-loop-test .before in
+    let at-args = at-loop .before .before .before .before .before .before in
+    let t = at-loop .loop .inv in
+    let here : at-loop .loop .y < length (at-args .args .ends .now) = at-loop-test .loop-test .taken in
+    let b = at-args .pre .buckets in
+    let order : at-loop .loop .at ≤ c .wide .result = omega (arith, t .start, b .rising _ here, c .wide .ensures) in
+    let room : c .wide .result ≤ length (at-loop .loop .lower) = omega (arith, t .reading .long, b .room _ here, c .wide .ensures) in
     omega (arith, room)
 
 gather-requires : tie.Need-gather-requires Inv-loop μ-loop
 gather-requires c κs =
-    let t = c .before .before .before .before .before .before .before .loop .inv in
-    let here : c .before .before .before .before .before .before .before .loop .y < length (c .before .before .before .before .before .before .before .before .before .before .before .before .before .args .ends .now) = c .before .before .before .before .before .before .loop-test .taken in
-    let b = c .before .before .before .before .before .before .before .before .before .before .before .before .before .pre .buckets in
-    let order : c .before .before .before .before .before .before .before .loop .at ≤ c .before .before .before .before .wide .result = omega (arith, t .start, b .rising _ here, c .before .before .before .before .wide .ensures) in
-    let room : c .before .before .before .before .wide .result ≤ length (c .before .before .before .before .before .before .before .loop .lower) = omega (arith, t .reading .long, b .room _ here, c .before .before .before .before .wide .ensures) in (
+    let at-wide = c .before .before .before .before in
+    let at-loop-test = at-wide .before .before in
+    let at-loop = at-loop-test .before in
+    let at-args = at-loop .before .before .before .before .before .before in
+    let t = at-loop .loop .inv in
+    let here : at-loop .loop .y < length (at-args .args .ends .now) = at-loop-test .loop-test .taken in
+    let b = at-args .pre .buckets in
+    let order : at-loop .loop .at ≤ at-wide .wide .result = omega (arith, t .start, b .rising _ here, at-wide .wide .ensures) in
+    let room : at-wide .wide .result ≤ length (at-loop .loop .lower) = omega (arith, t .reading .long, b .room _ here, at-wide .wide .ensures) in (
       omega (arith, t .same, here),
       omega (arith, t .same, b .few),
-      subst (λ (m : ℕ). Upward m (c .before .before .before .before .before .before .before .loop .jump)) (sym (t .same)) (t .upward),
+      subst (λ (m : ℕ). Upward m (at-loop .loop .jump)) (sym (t .same)) (t .upward),
       record {
         light = λ v h.
-            omega (arith, weighs-room (t .weighed) v (omega (arith, t .weighed .long)), length-take (c .before .before .before .before .before .before .before .loop .at) (c .before .before .before .before .before .before .before .before .before .before .before .before .before .args .lower .now), part-length (c .before .before .before .before .before .before .before .loop .at) (c .before .before .before .before .wide .result) (c .before .before .before .before .before .before .before .loop .lower) room, c .before .before .before .before .before .before .before .before .before .before .before .before .before .pre .light .light v (omega (arith, t .weighed .long)), t .reading .long);
+            omega (
+              arith,
+              weighs-room (t .weighed) v (omega (arith, t .weighed .long)),
+              length-take (at-loop .loop .at) (at-args .args .lower .now),
+              part-length (at-loop .loop .at)
+                  (at-wide .wide .result) (at-loop .loop .lower) room,
+              at-args .pre .light .light v (omega (arith, t .weighed .long)),
+              t .reading .long,
+            );
       },
     )
 
@@ -121,22 +142,27 @@ loop-less c = search needs
 
 loop-again : tie.Need-loop-again Inv-loop μ-loop
 loop-again c =
-    let t = c .before .before .before .before .before .before .before .before .before .before .before .before .before .before .before .before .loop .inv in
-    let here : c .before .before .before .before .before .before .before .before .before .before .before .before .before .before .before .before .loop .y < length (c .before .before .before .before .before .before .before .before .before .before .before .before .before .before .before .before .before .before .before .before .before .before .args .ends .now) = c .before .before .before .before .before .before .before .before .before .before .before .before .before .before .before .loop-test .taken in
-    let b = c .before .before .before .before .before .before .before .before .before .before .before .before .before .before .before .before .before .before .before .before .before .before .pre .buckets in
-    let order : c .before .before .before .before .before .before .before .before .before .before .before .before .before .before .before .before .loop .at ≤ c .before .before .before .before .before .before .before .before .before .before .before .before .before .wide .result = omega (arith, t .start, b .rising _ here, c .before .before .before .before .before .before .before .before .before .before .before .before .before .wide .ensures) in
-    let room : c .before .before .before .before .before .before .before .before .before .before .before .before .before .wide .result ≤ length (c .before .before .before .before .before .before .before .before .before .before .before .before .before .before .before .before .loop .lower) = omega (arith, t .reading .long, b .room _ here, c .before .before .before .before .before .before .before .before .before .before .before .before .before .wide .ensures) in
-    let g = c .before .before .before .before .before .before .before .before .gather .ensures .0 in
+    let at-gather = c .before .before .before .before .before .before .before .before in
+    let at-wide = at-gather .before .before .before .before .before in
+    let at-loop-test = at-wide .before .before in
+    let at-loop = at-loop-test .before in
+    let at-args = at-loop .before .before .before .before .before .before in
+    let t = at-loop .loop .inv in
+    let here : at-loop .loop .y < length (at-args .args .ends .now) = at-loop-test .loop-test .taken in
+    let b = at-args .pre .buckets in
+    let order : at-loop .loop .at ≤ at-wide .wide .result = omega (arith, t .start, b .rising _ here, at-wide .wide .ensures) in
+    let room : at-wide .wide .result ≤ length (at-loop .loop .lower) = omega (arith, t .reading .long, b .room _ here, at-wide .wide .ensures) in
+    let g = at-gather .gather .ensures .0 in
     record {
-      same = c .before .before .before .before .before .before .before .before .gather .kept .1 .1 .1 .1 .0 ∙ t .same;
-      upward = subst (λ (m : ℕ). Upward m (c .before .before .before .before .before .before .before .before .gather .last .1 .1 .1 .1 .1 .0)) (t .same) (g .upward);
+      same = at-gather .gather .kept .1 .1 .1 .1 .0 ∙ t .same;
+      upward = subst (λ (m : ℕ). Upward m (at-gather .gather .last .1 .1 .1 .1 .1 .0)) (t .same) (g .upward);
       within = omega arith;
-      start = c .before .before .before .before .before .before .before .before .before .before .before .before .before .wide .ensures ∙ sym (begin-next _ _);
+      start = at-wide .wide .ensures ∙ sym (begin-next _ _);
       reading = read-on (t .reading) _ order room (g .leaves);
-      weighed = weighs-stretch _ _ _ order (t .weighed) (rw (read-part (t .reading) (c .before .before .before .before .before .before .before .before .before .before .before .before .before .wide .result - c .before .before .before .before .before .before .before .before .before .before .before .before .before .before .before .before .loop .at)) at (g .weighed));
+      weighed = weighs-stretch _ _ _ order (t .weighed) (rw (read-part (t .reading) (at-wide .wide .result - at-loop .loop .at)) at (g .weighed));
       untouched = untouched-on (t .untouched) (g .untouched);
-      moves = moves-on (t .moves) (c .before .before .before .before .before .before .before .before .gather .ensures .1);
-      raised = λ E k f. raise-gather (t .same) (read-part (t .reading) (c .before .before .before .before .before .before .before .before .before .before .before .before .before .wide .result - c .before .before .before .before .before .before .before .before .before .before .before .before .before .before .before .before .loop .at) ∙ filed-part f _ here (t .start) (c .before .before .before .before .before .before .before .before .before .before .before .before .before .wide .ensures)) g k (t .raised E k f);
+      moves = moves-on (t .moves) (at-gather .gather .ensures .1);
+      raised = λ E k f. raise-gather (t .same) (read-part (t .reading) (at-wide .wide .result - at-loop .loop .at) ∙ filed-part f _ here (t .start) (at-wide .wide .ensures)) g k (t .raised E k f);
     }
 
 same-length : tie.Need-same-length Inv-loop μ-loop

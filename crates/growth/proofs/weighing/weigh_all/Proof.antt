@@ -26,8 +26,11 @@ shared-slice-read-weigh c = search needs
 
 weigh-requires : tie.Need-weigh-requires Inv-loop μ-loop
 weigh-requires c κs =
-    let t = c .before .before .before .loop .inv .1 in
-    λ v h. omega (arith, weighs-room t v (omega (arith, t .long)), c .before .before .before .before .before .before .pre .light v (omega (arith, t .long)), c .before .before .loop-test .taken, length-take (c .before .before .before .loop .i) (c .before .before .before .before .before .before .args .vertices .now))
+    let at-loop-test = c .before .before in
+    let at-loop = at-loop-test .before in
+    let at-pre = at-loop .before .before .before in
+    let t = at-loop .loop .inv .1 in
+    λ v h. omega (arith, weighs-room t v (omega (arith, t .long)), at-pre .pre .light v (omega (arith, t .long)), at-loop-test .loop-test .taken, length-take (at-loop .loop .i) (at-pre .args .vertices .now))
 
 add-i : tie.Need-add-i Inv-loop μ-loop
 add-i c = search needs
@@ -36,7 +39,11 @@ loop-less : tie.Need-loop-less Inv-loop μ-loop
 loop-less c = search needs
 
 loop-again : tie.Need-loop-again Inv-loop μ-loop
-loop-again c = (omega arith, weighs-next _ _ (c .before .before .before .before .before .before .loop .inv .1) (c .before .before .before .before .before .loop-test .taken) refl (c .before .before .weigh .ensures))
+loop-again c =
+    let at-weigh = c .before .before in
+    let at-loop-test = at-weigh .before .before .before in
+    let at-loop = at-loop-test .before in
+    (omega arith, weighs-next _ _ (at-loop .loop .inv .1) (at-loop-test .loop-test .taken) refl (at-weigh .weigh .ensures))
 
 same-length : tie.Need-same-length Inv-loop μ-loop
 same-length c = c .before .loop .inv .1 .long

@@ -5,8 +5,9 @@ use Rattle.insert.proofs.extending.extend.Tie as tie
 
 grow-counted-requires : tie.Need-grow-counted-requires
 grow-counted-requires c κs =
-    let s : tie.Start = c .before .before .before .before .before .before .before .before .before .before .before .before in
-    (s .pre .0, s .pre .1, s .pre .2 (c .before .before .before .before .before .if1 .taken))
+    let at-if1 = c .before .before .before .before .before in
+    let s : tie.Start = at-if1 .before .before .before .before .before .before .before in
+    (s .pre .0, s .pre .1, s .pre .2 (at-if1 .if1 .taken))
 
 same-length : tie.Need-same-length
 same-length c = search needs

@@ -46,16 +46,19 @@ same-length-5 c = search needs
 
 returns : tie.Need-returns
 returns c =
-    let s : tie.Start = c .before .before .before .before .before .before .before .before .before .before .before .before .before .before .before .before .before .before .before .before .before .before .before .before .before .before .before .before .before .before .before .before in
-    let d : tie.After-file-counted = c .before .before .before .before .before .before .before .before .before .before .before .before .before .before .before .before .before .before .before .before in
-    let blank = c .before .before .before .before .before .before .before .before .before .before .before .before .before .before .before .before .before .before .before .before .before .before .before .before .is-all .ensures (c .before .before .before .before .before .before .before .before .before .before .before .before .before .before .before .before .before .before .before .before .before .before .before .if1 .taken) in
-    let g = grown-filed (d .file-counted .ensures) (links-blank _ blank) (c .before .before .before .before .before .before .before .before .before .before .grow .ensures .0 .grown) in (
+    let at-grow = c .before .before .before .before .before .before .before .before .before .before in
+    let at-if1 = at-grow .before .before .before .before .before .before .before .before .before .before .before .before .before in
+    let at-is-all = at-if1 .before in
+    let s : tie.Start = at-is-all .before .before .before .before .before .before .before .before in
+    let d : tie.After-file-counted = at-grow .before .before .before .before .before .before .before .before .before .before in
+    let blank = at-is-all .is-all .ensures (at-if1 .if1 .taken) in
+    let g = grown-filed (d .file-counted .ensures) (links-blank _ blank) (at-grow .grow .ensures .0 .grown) in (
       record {
         grown = g .0 ∙ first-links _ blank (s .pre .0 .long);
-        clear = c .before .before .before .before .before .before .before .before .before .before .grow .ensures .0 .clear ∙ same-room _ _ _ _ _ _ (d .file-counted .kept .1 .0) refl (d .file-counted .kept .1 .1 .0);
+        clear = at-grow .grow .ensures .0 .clear ∙ same-room _ _ _ _ _ _ (d .file-counted .kept .1 .0) refl (d .file-counted .kept .1 .1 .0);
       },
       g .1,
-      c .before .before .before .before .before .before .before .before .before .before .grow .ensures .1,
+      at-grow .grow .ensures .1,
     )
 
 tally-requires : tie.Need-tally-requires
@@ -71,8 +74,10 @@ file-counted-edges-requires c κs =
 
 regrow-requires : tie.Need-regrow-requires
 regrow-requires c κs =
-    let e = c .before .before .before .before .before .before .before .before .before .before .before .before .before .before .before .before .before .before .before .before .before .before .before .before .before .pre .0 in
-    filed-growable (c .before .before .before .before .before .before .before .before .file-counted-edges .ensures) (e .table .few) refl (e .long-jump)
+    let at-file-counted-edges = c .before .before .before .before .before .before .before .before in
+    let at-pre = at-file-counted-edges .before .before .before .before .before .before .before .before .before .before .before .before .before .before .before .before .before in
+    let e = at-pre .pre .0 in
+    filed-growable (at-file-counted-edges .file-counted-edges .ensures) (e .table .few) refl (e .long-jump)
 
 same-length-6 : tie.Need-same-length-6
 same-length-6 c = search needs
@@ -91,14 +96,17 @@ same-length-10 c = search needs
 
 returns-2 : tie.Need-returns-2
 returns-2 c =
-    let e = c .before .before .before .before .before .before .before .before .before .before .before .before .before .before .before .before .before .before .before .before .before .before .before .before .before .before .before .before .before .before .before .before .before .before .pre .0 in
-    let d : tie.After-file-counted-edges = c .before .before .before .before .before .before .before .before .before .before .before .before .before .before .before .before .before in (
+    let at-regrow = c .before .before .before .before .before .before .before .before in
+    let at-tally = at-regrow .before .before .before .before .before .before .before .before .before .before .before .before .before .before .before in
+    let at-pre = at-tally .before .before .before .before .before .before .before .before .before .before .before in
+    let e = at-pre .pre .0 in
+    let d : tie.After-file-counted-edges = at-regrow .before .before .before .before .before .before .before .before .before in (
       record {
-        grown = rest-grown e (put-none (e .table) (e .faultless)) refl (d .file-counted-edges .ensures) (c .before .before .before .before .before .before .before .before .regrow .ensures .0);
-        clear = c .before .before .before .before .before .before .before .before .regrow .ensures .0 .clear ∙ same-room _ _ _ _ _ _ (d .file-counted-edges .kept .1 .1 .0) refl (d .file-counted-edges .kept .1 .1 .1 .0);
+        grown = rest-grown e (put-none (e .table) (e .faultless)) refl (d .file-counted-edges .ensures) (at-regrow .regrow .ensures .0);
+        clear = at-regrow .regrow .ensures .0 .clear ∙ same-room _ _ _ _ _ _ (d .file-counted-edges .kept .1 .1 .0) refl (d .file-counted-edges .kept .1 .1 .1 .0);
       },
-      c .before .before .before .before .before .before .before .before .before .before .before .before .before .before .before .before .before .before .before .before .before .before .before .tally .ensures,
-      c .before .before .before .before .before .before .before .before .regrow .ensures .1,
+      at-tally .tally .ensures,
+      at-regrow .regrow .ensures .1,
     )
 
 pub grow-counted-spec : {M : Type 1} → statement M

@@ -34,10 +34,14 @@ same-length-4 c = search needs
 
 returns : tie.Need-returns
 returns c =
-    let p = c .before .before .before .before .before .before .before .before .before .before .before .before .before .put-some .ensures in (
+    let at-clear = c .before .before .before .before .before .before in
+    let at-if1 = at-clear .before .before .before .before in
+    let at-put-some = at-if1 .before .before .before in
+    let at-pre = at-put-some .before .before .before .before .before .before .before .before in
+    let p = at-put-some .put-some .ensures in (
       record {
-        grown = put-all (p .0) (omega (arith, c .before .before .before .before .before .before .before .before .before .before .before .before .before .before .before .before .before .before .before .before .before .pre .table .few)) (c .before .before .before .before .before .before .before .before .before .before .if1 .taken);
-        clear = c .before .before .before .before .before .before .clear .ensures;
+        grown = put-all (p .0) (omega (arith, at-pre .pre .table .few)) (at-if1 .if1 .taken);
+        clear = at-clear .clear .ensures;
       },
       p .1 .differ,
     )
@@ -64,9 +68,11 @@ file-edges-requires c κs =
 
 regrow-requires : tie.Need-regrow-requires
 regrow-requires c κs =
-    let s : tie.Start = c .before .before .before .before .before .before .before .before .before .before .before .before .before .before .before .before .before .before .before .before .before .before .before .before in
-    let u = c .before .before .before .before .before .before .before .before .before .before .before .before .before .before .before .before .put-some .ensures .0 in
-    filed-growable (c .before .before .before .before .before .before .before .before .file-edges .ensures) (omega (arith, u .same, s .pre .table .few)) refl (omega (arith, u .same, s .pre .long-jump))
+    let at-file-edges = c .before .before .before .before .before .before .before .before in
+    let at-put-some = at-file-edges .before .before .before .before .before .before .before .before in
+    let s : tie.Start = at-put-some .before .before .before .before .before .before .before .before in
+    let u = at-put-some .put-some .ensures .0 in
+    filed-growable (at-file-edges .file-edges .ensures) (omega (arith, u .same, s .pre .table .few)) refl (omega (arith, u .same, s .pre .long-jump))
 
 smaller-requires : tie.Need-smaller-requires
 smaller-requires c κs = search needs
@@ -85,10 +91,11 @@ same-length-8 c = search needs
 
 returns-2 : tie.Need-returns-2
 returns-2 c =
-    let s : tie.Start = c .before .before .before .before .before .before .before .before .before .before .before .before .before .before .before .before .before .before .before .before .before .before .before .before .before .before .before .before .before .before .before .before .before .before in
-    let p : tie.After-put-some = c .before .before .before .before .before .before .before .before .before .before .before .before .before .before .before .before .before .before .before .before .before .before .before .before .before .before in
-    let f : tie.After-file-edges = c .before .before .before .before .before .before .before .before .before .before .before .before .before .before .before .before .before .before in
-    let g = c .before .before .before .before .before .before .before .before .before .regrow .ensures in
+    let at-regrow = c .before .before .before .before .before .before .before .before .before in
+    let s : tie.Start = at-regrow .before .before .before .before .before .before .before .before .before .before .before .before .before .before .before .before .before .before .before .before .before .before .before .before .before in
+    let p : tie.After-put-some = at-regrow .before .before .before .before .before .before .before .before .before .before .before .before .before .before .before .before .before in
+    let f : tie.After-file-edges = at-regrow .before .before .before .before .before .before .before .before .before in
+    let g = at-regrow .regrow .ensures in
     let u = p .put-some .ensures .0 in
     let y = rest-part (s .args .edges .now) (p .put-some .result .count) in (
       record {

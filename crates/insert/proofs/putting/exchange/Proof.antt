@@ -47,8 +47,11 @@ same-length-2 c = search needs
 
 returns-3 : tie.Need-returns-3
 returns-3 c =
-    let (t, up, inside) = c .before .before .before .before .before .pre in
-    (exchanged-swap t up inside (c .before .before .if1 .left) (c .before .if2 .left), exchanged-lower t up inside (c .smaller2 .ensures) (omega (arith, c .before .if2 .left)))
+    let at-if2 = c .before in
+    let at-if1 = at-if2 .before in
+    let at-pre = at-if1 .before .before .before in
+    let (t, up, inside) = at-pre .pre in
+    (exchanged-swap t up inside (at-if1 .if1 .left) (at-if2 .if2 .left), exchanged-lower t up inside (c .smaller2 .ensures) (omega (arith, at-if2 .if2 .left)))
 
 pub exchange-spec : {M : Type 1} → statement M
 exchange-spec =

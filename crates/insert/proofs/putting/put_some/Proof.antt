@@ -44,11 +44,19 @@ shared-slice-read-put-edge-2 c = search needs
 
 put-edge-requires : tie.Need-put-edge-requires Inv-loop μ-loop
 put-edge-requires c κs =
-    let u = c .before .before .before .before .before .loop .inv .0 in
-    (record { few = omega (arith, u .same, c .before .before .before .before .before .before .before .before .pre .0 .few); sound = u .sound }, put-ends u (c .before .before .before .before .loop-test .taken) .0, put-ends u (c .before .before .before .before .loop-test .taken) .1, put-ends u (c .before .before .before .before .loop-test .taken) .2)
+    let at-loop-test = c .before .before .before .before in
+    let at-loop = at-loop-test .before in
+    let at-pre = at-loop .before .before .before in
+    let u = at-loop .loop .inv .0 in
+    (record { few = omega (arith, u .same, at-pre .pre .0 .few); sound = u .sound }, put-ends u (at-loop-test .loop-test .taken) .0, put-ends u (at-loop-test .loop-test .taken) .1, put-ends u (at-loop-test .loop-test .taken) .2)
 
 add-steps : tie.Need-add-steps Inv-loop μ-loop
-add-steps c = omega (arith, c .before .before .before .put-edge .ensures .0 .quick, c .before .before .before .before .before .before .before .before .before .loop .inv .0 .same, c .before .before .before .before .before .before .before .if1 .left, c .before .before .before .before .before .before .before .before .before .before .before .before .pre .0 .few, c .before .before .before .before .before .before .before .before .before .before .before .before .pre .2)
+add-steps c =
+    let at-put-edge = c .before .before .before in
+    let at-if1 = at-put-edge .before .before .before .before in
+    let at-loop = at-if1 .before .before in
+    let at-pre = at-loop .before .before .before in
+    omega (arith, at-put-edge .put-edge .ensures .0 .quick, at-loop .loop .inv .0 .same, at-if1 .if1 .left, at-pre .pre .0 .few, at-pre .pre .2)
 
 add-i : tie.Need-add-i Inv-loop μ-loop
 add-i c = search needs
@@ -58,9 +66,13 @@ loop-less c = search needs
 
 loop-again : tie.Need-loop-again Inv-loop μ-loop
 loop-again c =
-    let t = c .before .before .before .before .before .before .before .before .before .loop .inv in
-    let x = c .before .before .before .put-edge .ensures in
-    (put-next (t .0) (c .before .before .before .before .before .before .before .before .loop-test .taken) (x .0), omega (arith, x .0 .quick, t .0 .same, c .before .before .before .before .before .before .before .if1 .left), x .1 .fallen _ (t .2))
+    let at-put-edge = c .before .before .before in
+    let at-if1 = at-put-edge .before .before .before .before in
+    let at-loop-test = at-if1 .before in
+    let at-loop = at-loop-test .before in
+    let t = at-loop .loop .inv in
+    let x = at-put-edge .put-edge .ensures in
+    (put-next (t .0) (at-loop-test .loop-test .taken) (x .0), omega (arith, x .0 .quick, t .0 .same, at-if1 .if1 .left), x .1 .fallen _ (t .2))
 
 same-length-2 : tie.Need-same-length-2 Inv-loop μ-loop
 same-length-2 c = c .before .loop .inv .0 .same

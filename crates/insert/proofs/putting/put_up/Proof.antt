@@ -18,13 +18,22 @@ loop-holds : tie.Need-loop-holds Inv-loop μ-loop
 loop-holds c = (trade-start (c .before .pre .0) (c .before .pre .1) (c .before .pre .2), lowers-none _ _)
 
 exchange-requires : tie.Need-exchange-requires Inv-loop μ-loop
-exchange-requires c κs = (c .before .before .loop .inv .0 .table, c .before .loop-test .taken, omega (arith, c .before .before .loop .inv .0 .inside, c .before .before .loop .inv .0 .same))
+exchange-requires c κs =
+    let at-loop-test = c .before in
+    let at-loop = at-loop-test .before in
+    (at-loop .loop .inv .0 .table, at-loop-test .loop-test .taken, omega (arith, at-loop .loop .inv .0 .inside, at-loop .loop .inv .0 .same))
 
 add-steps : tie.Need-add-steps Inv-loop μ-loop
-add-steps c = omega (arith, c .before .before .before .before .before .loop .inv .0 .quick, c .before .before .before .before .before .loop .inv .0 .inside, c .before .before .before .before .before .loop .inv .0 .order)
+add-steps c =
+    let at-loop = c .before .before .before .before .before in
+    omega (arith, at-loop .loop .inv .0 .quick, at-loop .loop .inv .0 .inside, at-loop .loop .inv .0 .order)
 
 loop-less : tie.Need-loop-less Inv-loop μ-loop
-loop-less c = omega (arith, c .before .before .exchange .ensures .0 .higher, c .before .before .before .before .before .loop .inv .0 .inside, c .before .before .before .before .loop-test .taken)
+loop-less c =
+    let at-exchange = c .before .before in
+    let at-loop-test = at-exchange .before .before in
+    let at-loop = at-loop-test .before in
+    omega (arith, at-exchange .exchange .ensures .0 .higher, at-loop .loop .inv .0 .inside, at-loop-test .loop-test .taken)
 
 loop-again : tie.Need-loop-again Inv-loop μ-loop
 loop-again c =

@@ -13,7 +13,11 @@ same-length : tie.Need-same-length
 same-length c = search needs
 
 returns : tie.Need-returns
-returns c = put-field 10 (c .before .before .before .amount .ensures) (word-digits _ (c .before .before .before .before .before .before .fits .x .fits)) _ (c .before .before .put-field .ensures)
+returns c =
+    let at-put-field = c .before .before in
+    let at-amount = at-put-field .before in
+    let at-fits = at-amount .before .before .before in
+    put-field 10 (at-amount .amount .ensures) (word-digits _ (at-fits .fits .x .fits)) _ (at-put-field .put-field .ensures)
 
 pub put-entry-spec : {M : Type 1} → statement M
 put-entry-spec = tie.close (tie.spec amount-requires put-field-requires same-length returns)

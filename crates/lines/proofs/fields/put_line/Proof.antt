@@ -29,14 +29,77 @@ put-entry-requires-6 : tie.Need-put-entry-requires-6
 put-entry-requires-6 c κs = search needs
 
 put-entry-requires-7 : tie.Need-put-entry-requires-7
-put-entry-requires-7 c κs = omega (arith, (c .before .before .before .before .before .before .before .before .before .before .before .before .before .before .before .before .before .before .before .before .before .before .before .before .before .before .before .before .before .before .pre), (c .before .before .before .before .before .before .before .before .before .before .before .before .before .before .before .before .before .before .before .before .before .before .before .before .before .before .before .put-entry .ensures .1), put-length (c .before .before .before .before .before .before .before .before .before .before .before .before .before .before .before .before .before .before .before .before .before .before .before .before .before .before .before .put-entry .ensures .0), (c .before .before .before .before .before .before .before .before .before .before .before .before .before .before .before .before .before .before .before .before .before .before .before .put-entry2 .ensures .1), put-length (c .before .before .before .before .before .before .before .before .before .before .before .before .before .before .before .before .before .before .before .before .before .before .before .put-entry2 .ensures .0), (c .before .before .before .before .before .before .before .before .before .before .before .before .before .before .before .before .before .before .before .put-parent .ensures .1), put-length (c .before .before .before .before .before .before .before .before .before .before .before .before .before .before .before .before .before .before .before .put-parent .ensures .0), (c .before .before .before .before .before .before .before .before .before .before .before .before .before .before .before .put-entry3 .ensures .1), put-length (c .before .before .before .before .before .before .before .before .before .before .before .before .before .before .before .put-entry3 .ensures .0), (c .before .before .before .before .before .before .before .before .before .before .before .put-entry4 .ensures .1), put-length (c .before .before .before .before .before .before .before .before .before .before .before .put-entry4 .ensures .0), (c .before .before .before .before .before .before .before .put-entry5 .ensures .1), put-length (c .before .before .before .before .before .before .before .put-entry5 .ensures .0), (c .before .before .before .put-entry6 .ensures .1), put-length (c .before .before .before .put-entry6 .ensures .0))
+put-entry-requires-7 c κs =
+    let at-put-entry6 = c .before .before .before in
+    let at-put-entry5 = at-put-entry6 .before .before .before .before in
+    let at-put-entry4 = at-put-entry5 .before .before .before .before in
+    let at-put-entry3 = at-put-entry4 .before .before .before .before in
+    let at-put-parent = at-put-entry3 .before .before .before .before in
+    let at-put-entry2 = at-put-parent .before .before .before .before in
+    let at-put-entry = at-put-entry2 .before .before .before .before in
+    let at-pre = at-put-entry .before .before .before in
+    omega (
+      arith,
+      (at-pre .pre),
+      (at-put-entry .put-entry .ensures .1),
+      put-length (at-put-entry .put-entry .ensures .0),
+      (at-put-entry2 .put-entry2 .ensures .1),
+      put-length
+          (at-put-entry2 .put-entry2 .ensures .0),
+      (at-put-parent .put-parent .ensures .1),
+      put-length (at-put-parent .put-parent .ensures .0),
+      (at-put-entry3 .put-entry3 .ensures .1),
+      put-length
+          (at-put-entry3 .put-entry3 .ensures .0),
+      (at-put-entry4 .put-entry4 .ensures .1),
+      put-length (at-put-entry4 .put-entry4 .ensures .0),
+      (at-put-entry5 .put-entry5 .ensures .1),
+      put-length
+          (at-put-entry5 .put-entry5 .ensures .0),
+      (at-put-entry6 .put-entry6 .ensures .1),
+      put-length (at-put-entry6 .put-entry6 .ensures .0),
+    )
 
 same-length : tie.Need-same-length
-same-length c = put-length (c .before .before .put-entry7 .ensures .0) ∙ put-length (c .before .before .before .before .before .before .put-entry6 .ensures .0) ∙ put-length (c .before .before .before .before .before .before .before .before .before .before .put-entry5 .ensures .0) ∙ put-length (c .before .before .before .before .before .before .before .before .before .before .before .before .before .before .put-entry4 .ensures .0) ∙ put-length (c .before .before .before .before .before .before .before .before .before .before .before .before .before .before .before .before .before .before .put-entry3 .ensures .0) ∙ put-length (c .before .before .before .before .before .before .before .before .before .before .before .before .before .before .before .before .before .before .before .before .before .before .put-parent .ensures .0) ∙ put-length (c .before .before .before .before .before .before .before .before .before .before .before .before .before .before .before .before .before .before .before .before .before .before .before .before .before .before .put-entry2 .ensures .0) ∙ put-length (c .before .before .before .before .before .before .before .before .before .before .before .before .before .before .before .before .before .before .before .before .before .before .before .before .before .before .before .before .before .before .put-entry .ensures .0)
+same-length c =
+    let at-put-entry7 = c .before .before in
+    let at-put-entry6 = at-put-entry7 .before .before .before .before in
+    let at-put-entry5 = at-put-entry6 .before .before .before .before in
+    let at-put-entry4 = at-put-entry5 .before .before .before .before in
+    let at-put-entry3 = at-put-entry4 .before .before .before .before in
+    let at-put-parent = at-put-entry3 .before .before .before .before in
+    let at-put-entry2 = at-put-parent .before .before .before .before in
+    let at-put-entry = at-put-entry2 .before .before .before .before in
+    put-length (at-put-entry7 .put-entry7 .ensures .0) ∙ put-length (at-put-entry6 .put-entry6 .ensures .0) ∙ put-length (at-put-entry5 .put-entry5 .ensures .0) ∙ put-length
+    (at-put-entry4 .put-entry4 .ensures .0) ∙ put-length (at-put-entry3 .put-entry3 .ensures .0) ∙ put-length (at-put-parent .put-parent .ensures .0) ∙ put-length
+    (at-put-entry2 .put-entry2 .ensures .0) ∙ put-length (at-put-entry .put-entry .ensures .0)
 
 returns : tie.Need-returns
 unfolding lineText spaced newlined ascii
-returns c = (put-on (put-on (put-on (put-on (put-on (put-on (put-on (c .before .before .before .before .before .before .before .before .before .before .before .before .before .before .before .before .before .before .before .before .before .before .before .before .before .before .before .before .before .before .put-entry .ensures .0) (c .before .before .before .before .before .before .before .before .before .before .before .before .before .before .before .before .before .before .before .before .before .before .before .before .before .before .put-entry2 .ensures .0)) (c .before .before .before .before .before .before .before .before .before .before .before .before .before .before .before .before .before .before .before .before .before .before .put-parent .ensures .0)) (c .before .before .before .before .before .before .before .before .before .before .before .before .before .before .before .before .before .before .put-entry3 .ensures .0)) (c .before .before .before .before .before .before .before .before .before .before .before .before .before .before .put-entry4 .ensures .0)) (c .before .before .before .before .before .before .before .before .before .before .put-entry5 .ensures .0)) (c .before .before .before .before .before .before .put-entry6 .ensures .0)) (c .before .before .put-entry7 .ensures .0), omega (arith, (c .before .before .before .before .before .before .before .before .before .before .before .before .before .before .before .before .before .before .before .before .before .before .before .before .before .before .before .before .before .before .put-entry .ensures .1), (c .before .before .before .before .before .before .before .before .before .before .before .before .before .before .before .before .before .before .before .before .before .before .before .before .before .before .put-entry2 .ensures .1), (c .before .before .before .before .before .before .before .before .before .before .before .before .before .before .before .before .before .before .before .before .before .before .put-parent .ensures .1), (c .before .before .before .before .before .before .before .before .before .before .before .before .before .before .before .before .before .before .put-entry3 .ensures .1), (c .before .before .before .before .before .before .before .before .before .before .before .before .before .before .put-entry4 .ensures .1), (c .before .before .before .before .before .before .before .before .before .before .put-entry5 .ensures .1), (c .before .before .before .before .before .before .put-entry6 .ensures .1), (c .before .before .put-entry7 .ensures .1)))
+returns c =
+    let at-put-entry7 = c .before .before in
+    let at-put-entry6 = at-put-entry7 .before .before .before .before in
+    let at-put-entry5 = at-put-entry6 .before .before .before .before in
+    let at-put-entry4 = at-put-entry5 .before .before .before .before in
+    let at-put-entry3 = at-put-entry4 .before .before .before .before in
+    let at-put-parent = at-put-entry3 .before .before .before .before in
+    let at-put-entry2 = at-put-parent .before .before .before .before in
+    let at-put-entry = at-put-entry2 .before .before .before .before in (
+      put-on (put-on (put-on (put-on
+          (put-on (put-on (put-on (at-put-entry .put-entry .ensures .0) (at-put-entry2 .put-entry2 .ensures .0)) (at-put-parent .put-parent .ensures .0)) (at-put-entry3 .put-entry3 .ensures .0))
+          (at-put-entry4 .put-entry4 .ensures .0)) (at-put-entry5 .put-entry5 .ensures .0)) (at-put-entry6 .put-entry6 .ensures .0)) (at-put-entry7 .put-entry7 .ensures .0),
+      omega (
+        arith,
+        (at-put-entry .put-entry .ensures .1),
+        (at-put-entry2 .put-entry2 .ensures .1),
+        (at-put-parent .put-parent .ensures .1),
+        (at-put-entry3 .put-entry3 .ensures .1),
+        (at-put-entry4 .put-entry4 .ensures .1),
+        (at-put-entry5 .put-entry5 .ensures .1),
+        (at-put-entry6 .put-entry6 .ensures .1),
+        (at-put-entry7 .put-entry7 .ensures .1),
+      ),
+    )
 
 pub put-line-spec : {M : Type 1} → statement M
 put-line-spec =

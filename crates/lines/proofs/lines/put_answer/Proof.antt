@@ -25,7 +25,11 @@ same-length c = search needs
 
 returns : tie.Need-returns
 unfolding verdict
-returns c = put-accepted _ (ap verdict (c .before .before .before .before .before .before .before .before .before .answer .given .1)) (c .before .before .before .before .before .before .put-lines .ensures .0) (c .before .before .put-totals .ensures)
+returns c =
+    let at-put-totals = c .before .before in
+    let at-put-lines = at-put-totals .before .before .before .before in
+    let at-answer = at-put-lines .before .before .before in
+    put-accepted _ (ap verdict (at-answer .answer .given .1)) (at-put-lines .put-lines .ensures .0) (at-put-totals .put-totals .ensures)
 
 same-length-2 : tie.Need-same-length-2
 same-length-2 c = search needs

@@ -63,7 +63,11 @@ shared-slice-read-put-line-7 : tie.Need-shared-slice-read-put-line-7 Inv-loop μ
 shared-slice-read-put-line-7 c = search needs
 
 put-line-requires : tie.Need-put-line-requires Inv-loop μ-loop
-put-line-requires c κs = line-room (c .before .before .before .before .before .before .before .before .before .loop .inv .1) (c .before .before .before .before .before .before .before .before .loop-test .taken) (c .before .before .before .before .before .before .before .before .before .before .before .before .before .before .before .before .before .before .pre .1)
+put-line-requires c κs =
+    let at-loop-test = c .before .before .before .before .before .before .before .before in
+    let at-loop = at-loop-test .before in
+    let at-pre = at-loop .before .before .before .before .before .before .before .before .before in
+    line-room (at-loop .loop .inv .1) (at-loop-test .loop-test .taken) (at-pre .pre .1)
 
 add-x : tie.Need-add-x Inv-loop μ-loop
 add-x c = search needs

@@ -30,7 +30,13 @@ same-length c = search needs
 
 returns : tie.Need-returns
 unfolding shareText spaced newlined ascii
-returns c = put-on (put-on (c .before .before .before .before .before .before .before .before .before .before .before .before .put-text .ensures) (put-as _ (c .before .before .before .before .before .before .before .before .quotient .ensures) (c .before .before .before .before .before .before .before .put-entry .ensures .0))) (put-as _ (c .before .before .before .remainder .ensures) (c .before .before .put-entry2 .ensures .0))
+returns c =
+    let at-put-entry2 = c .before .before in
+    let at-remainder = at-put-entry2 .before in
+    let at-put-entry = at-remainder .before .before .before .before in
+    let at-quotient = at-put-entry .before in
+    let at-put-text = at-quotient .before .before .before .before in
+    put-on (put-on (at-put-text .put-text .ensures) (put-as _ (at-quotient .quotient .ensures) (at-put-entry .put-entry .ensures .0))) (put-as _ (at-remainder .remainder .ensures) (at-put-entry2 .put-entry2 .ensures .0))
 
 pub put-share-spec : {M : Type 1} → statement M
 put-share-spec =

@@ -32,7 +32,13 @@ same-length c = search needs
 
 returns : tie.Need-returns
 unfolding totalsText spaced ascii
-returns c = put-on (put-on (put-on (put-on (c .before .before .before .before .before .before .before .before .before .before .before .before .before .before .before .before .before .before .before .put-text .ensures) (c .before .before .before .before .before .before .before .before .before .before .before .before .before .before .before .put-figure .ensures .0)) (c .before .before .before .before .before .before .before .before .before .before .put-text2 .ensures)) (c .before .before .before .before .before .before .put-figure2 .ensures .0)) (c .before .before .put-share .ensures)
+returns c =
+    let at-put-share = c .before .before in
+    let at-put-figure2 = at-put-share .before .before .before .before in
+    let at-put-text2 = at-put-figure2 .before .before .before .before in
+    let at-put-figure = at-put-text2 .before .before .before .before .before in
+    let at-put-text = at-put-figure .before .before .before .before in
+    put-on (put-on (put-on (put-on (at-put-text .put-text .ensures) (at-put-figure .put-figure .ensures .0)) (at-put-text2 .put-text2 .ensures)) (at-put-figure2 .put-figure2 .ensures .0)) (at-put-share .put-share .ensures)
 
 pub put-totals-spec : {M : Type 1} → statement M
 put-totals-spec =

@@ -4,16 +4,13 @@ use borrow.Author.Needs.{needs}
 use Rattle.net.proofs.Net.is_damaged.Statement.{statement}
 use Rattle.net.proofs.Net.is_damaged.Tie as tie
 
--- src/lib.rt:43:12
 is-sound-requires : tie.Need-is-sound-requires
 is-sound-requires c κs = search needs
 
--- src/lib.rt:40:5
 returns : tie.Need-returns
 unfolding damagedBy
 returns c = simp (sym (c .before .before .is-sound .ensures) ∙ c .before .if1 .taken)
 
--- src/lib.rt:40:5
 returns-2 : tie.Need-returns-2
 unfolding damagedBy
 returns-2 c = simp (sym (c .before .is-sound .ensures) ∙ c .if1 .left)

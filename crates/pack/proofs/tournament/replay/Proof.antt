@@ -33,7 +33,11 @@ slice-read-result : tie.Need-slice-read-result Inv-loop μ-loop
 slice-read-result c = search needs
 
 returns : tie.Need-returns Inv-loop μ-loop
-returns c = replay-none (c .before .before .before .before .before .before .before .pre) (c .before .if1 .taken) (c .before .before .before .key-of .ensures) refl
+returns c =
+    let at-if1 = c .before in
+    let at-key-of = at-if1 .before .before in
+    let at-pre = at-key-of .before .before .before .before in
+    replay-none (at-pre .pre) (at-if1 .if1 .taken) (at-key-of .key-of .ensures) refl
 
 mul-nodes : tie.Need-mul-nodes Inv-loop μ-loop
 mul-nodes c = search needs
@@ -66,7 +70,11 @@ loop-less : tie.Need-loop-less Inv-loop μ-loop
 loop-less c = search needs
 
 loop-again : tie.Need-loop-again Inv-loop μ-loop
-loop-again c = replay-more (c .before .before .before .before .loop .inv) (c .before .before .before .loop-test .taken) _ (c .before .before .sibling .ensures) (c .lighter .ensures)
+loop-again c =
+    let at-sibling = c .before .before in
+    let at-loop-test = at-sibling .before in
+    let at-loop = at-loop-test .before in
+    replay-more (at-loop .loop .inv) (at-loop-test .loop-test .taken) _ (at-sibling .sibling .ensures) (c .lighter .ensures)
 
 same-length : tie.Need-same-length Inv-loop μ-loop
 same-length c = search needs

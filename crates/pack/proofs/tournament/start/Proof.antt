@@ -54,13 +54,23 @@ loop-less : tie.Need-loop-less Inv-loop μ-loop
 loop-less c = search needs
 
 loop-again : tie.Need-loop-again Inv-loop μ-loop
-loop-again c = start-node (c .before .before .before .before .before .loop .inv) (c .before .before .before .before .before .before .before .pre .1) (omega arith) (omega arith) (c .before .before .before .if1 .taken) (c .lighter .ensures)
+loop-again c =
+    let at-if1 = c .before .before .before in
+    let at-loop = at-if1 .before .before in
+    let at-pre = at-loop .before .before in
+    start-node (at-loop .loop .inv) (at-pre .pre .1) (omega arith) (omega arith) (at-if1 .if1 .taken) (c .lighter .ensures)
 
 mul-nodes-2 : tie.Need-mul-nodes-2 Inv-loop μ-loop
-mul-nodes-2 c = omega (arith, start-high (c .before .before .before .before .args .blocks) (c .before .before .loop .inv), c .before .before .before .before .pre .1)
+mul-nodes-2 c =
+    let at-loop = c .before .before in
+    let at-args = at-loop .before .before in
+    omega (arith, start-high (at-args .args .blocks) (at-loop .loop .inv), at-args .pre .1)
 
 slice-write-nodes-2 : tie.Need-slice-write-nodes-2 Inv-loop μ-loop
-slice-write-nodes-2 c = omega (arith, start-high (c .before .before .before .before .args .blocks) (c .before .before .loop .inv), c .before .before .before .before .pre .1, c .before .before .loop .inv .size)
+slice-write-nodes-2 c =
+    let at-loop = c .before .before in
+    let at-args = at-loop .before .before in
+    omega (arith, start-high (at-args .args .blocks) (at-loop .loop .inv), at-args .pre .1, at-loop .loop .inv .size)
 
 loop-less-2 : tie.Need-loop-less-2 Inv-loop μ-loop
 loop-less-2 c = search needs

@@ -12,8 +12,11 @@ sum-subtrees-requires c κs = rw (c .before .before .before .copy .ensures) (c .
 
 place-subtrees-requires : tie.Need-place-subtrees-requires
 place-subtrees-requires c κs =
-    let e = ap total (c .before .before .before .before .before .before .before .before .copy .ensures) ∙ c .before .before .before .before .before .before .before .before .before .before .before .before .before .before .pre .1 .0 in
-    let st = rw e at (c .before .before .before .before .sum-subtrees .ensures) in
+    let at-sum-subtrees = c .before .before .before .before in
+    let at-copy = at-sum-subtrees .before .before .before .before in
+    let at-pre = at-copy .before .before .before .before .before .before in
+    let e = ap total (at-copy .copy .ensures) ∙ at-pre .pre .1 .0 in
+    let st = rw e at (at-sum-subtrees .sum-subtrees .ensures) in
     (search needs, (_, st))
 
 same-length : tie.Need-same-length
@@ -24,9 +27,13 @@ same-length-2 c = search needs
 
 returns : tie.Need-returns
 returns c =
-    let e = ap total (c .before .before .before .before .before .before .before .before .before .before .before .before .before .copy .ensures) ∙ c .before .before .before .before .before .before .before .before .before .before .before .before .before .before .before .before .before .before .before .pre .1 .0 in
-    let st = rw e at (c .before .before .before .before .before .before .before .before .before .sum-subtrees .ensures) in
-    rw (c .before .before .before .before .before .before .before .before .before .before .before .before .before .copy .ensures) at (c .before .before .before .before .place-subtrees .ensures _ st)
+    let at-place-subtrees = c .before .before .before .before in
+    let at-sum-subtrees = at-place-subtrees .before .before .before .before .before in
+    let at-copy = at-sum-subtrees .before .before .before .before in
+    let at-pre = at-copy .before .before .before .before .before .before in
+    let e = ap total (at-copy .copy .ensures) ∙ at-pre .pre .1 .0 in
+    let st = rw e at (at-sum-subtrees .sum-subtrees .ensures) in
+    rw (at-copy .copy .ensures) at (at-place-subtrees .place-subtrees .ensures _ st)
 
 pub lay-out-spec : {M : Type 1} → statement M
 lay-out-spec =

@@ -33,19 +33,34 @@ add-x : tie.Need-add-x Inv-loop μ-loop
 add-x c = search needs
 
 add-at-requires : tie.Need-add-at-requires Inv-loop μ-loop
-add-at-requires c κs = keep-fits (c .before .before .before .before .before .before .before .before .pre) (c .before .before .before .before .loop-test .taken) (c .before .before .before .before .before .loop .inv .1) (c .before .if1 .taken)
+add-at-requires c κs =
+    let at-if1 = c .before in
+    let at-loop-test = at-if1 .before .before .before in
+    let at-loop = at-loop-test .before in
+    let at-pre = at-loop .before .before .before in
+    keep-fits (at-pre .pre) (at-loop-test .loop-test .taken) (at-loop .loop .inv .1) (at-if1 .if1 .taken)
 
 loop-less : tie.Need-loop-less Inv-loop μ-loop
 loop-less c = search needs
 
 loop-again : tie.Need-loop-again Inv-loop μ-loop
-loop-again c = (search needs, keep-child (c .before .before .before .before .before .before .before .before .before .before .before .pre) (c .before .before .before .before .before .before .before .loop-test .taken) (c .before .before .before .before .before .before .before .before .loop .inv .1) (c .before .before .before .before .if1 .taken) (c .before .before .add-at .ensures))
+loop-again c =
+    let at-add-at = c .before .before in
+    let at-if1 = at-add-at .before .before in
+    let at-loop-test = at-if1 .before .before .before in
+    let at-loop = at-loop-test .before in
+    let at-pre = at-loop .before .before .before in
+    (search needs, keep-child (at-pre .pre) (at-loop-test .loop-test .taken) (at-loop .loop .inv .1) (at-if1 .if1 .taken) (at-add-at .add-at .ensures))
 
 loop-less-2 : tie.Need-loop-less-2 Inv-loop μ-loop
 loop-less-2 c = search needs
 
 loop-again-2 : tie.Need-loop-again-2 Inv-loop μ-loop
-loop-again-2 c = (search needs, keep-root (c .before .before .before .before .before .before .before .pre) (c .before .before .before .loop-test .taken) (c .before .before .before .before .loop .inv .1) (c .if1 .left))
+loop-again-2 c =
+    let at-loop-test = c .before .before .before in
+    let at-loop = at-loop-test .before in
+    let at-pre = at-loop .before .before .before in
+    (search needs, keep-root (at-pre .pre) (at-loop-test .loop-test .taken) (at-loop .loop .inv .1) (c .if1 .left))
 
 same-length : tie.Need-same-length Inv-loop μ-loop
 same-length c = search needs

@@ -14,9 +14,13 @@ fill-requires-2 c κs = search needs
 
 visit-requires : tie.Need-visit-requires
 visit-requires c κs =
-    let (eo, ea, ep) = c .before .before .before .before .before .before .before .before .before .before .before .before .before .before .before .before .before .before .before .before .before .before .before .pre .0 in
-    let (es, filed, stops, g) = c .before .before .before .before .before .before .before .before .before .before .before .before .before .before .before .before .before .before .before .before .before .before .before .pre .1 in
-    (_, es, filed, stops, g, empty-tables _ (g .layout .sound) (c .before .before .before .before .before .before .before .before .before .before .before .before .before .copy .ensures) (c .before .before .before .before .before .before .before .before .before .fill .ensures) (c .before .before .before .before .before .fill2 .ensures) ep eo)
+    let at-fill2 = c .before .before .before .before .before in
+    let at-fill = at-fill2 .before .before .before .before in
+    let at-copy = at-fill .before .before .before .before in
+    let at-pre = at-copy .before .before .before .before .before .before .before .before .before .before in
+    let (eo, ea, ep) = at-pre .pre .0 in
+    let (es, filed, stops, g) = at-pre .pre .1 in
+    (_, es, filed, stops, g, empty-tables _ (g .layout .sound) (at-copy .copy .ensures) (at-fill .fill .ensures) (at-fill2 .fill2 .ensures) ep eo)
 
 same-length : tie.Need-same-length
 same-length c = search needs
@@ -28,10 +32,16 @@ same-length-3 : tie.Need-same-length-3
 same-length-3 c = search needs
 
 returns : tie.Need-returns
-returns c = λ es filed stops g.
-    let (eo, ea, ep) = c .before .before .before .before .before .before .before .before .before .before .before .before .before .before .before .before .before .before .before .before .before .before .before .before .before .before .before .before .before .before .pre .0 in
-    c .before .before .before .before .before .before .visit .ensures _ es filed stops g
-    (empty-tables _ (g .layout .sound) (c .before .before .before .before .before .before .before .before .before .before .before .before .before .before .before .before .before .before .before .before .copy .ensures) (c .before .before .before .before .before .before .before .before .before .before .before .before .before .before .before .before .fill .ensures) (c .before .before .before .before .before .before .before .before .before .before .before .before .fill2 .ensures) ep eo)
+returns c =
+    let at-visit = c .before .before .before .before .before .before in
+    let at-fill2 = at-visit .before .before .before .before .before .before in
+    let at-fill = at-fill2 .before .before .before .before in
+    let at-copy = at-fill .before .before .before .before in
+    let at-pre = at-copy .before .before .before .before .before .before .before .before .before .before in
+    λ es filed stops g.
+    let (eo, ea, ep) = at-pre .pre .0 in
+    at-visit .visit .ensures _ es filed stops g
+    (empty-tables _ (g .layout .sound) (at-copy .copy .ensures) (at-fill .fill .ensures) (at-fill2 .fill2 .ensures) ep eo)
 
 pub count-overlaps-spec : {M : Type 1} → statement M
 count-overlaps-spec =

@@ -20,18 +20,32 @@ abbrev μ-loop : tie.MeasureT-loop
 -- the pointer of a vertex that is over leads into the table
 inside : (c : tie.After-read-at2 Inv-loop μ-loop) → c .read-at2 .result < length (c .before .before .before .before .before .before .before .before .args .ends .now)
 inside c =
-    let (p, j, u) = c .before .before .before .before .before .before .before .before .pre in
-    let st = c .before .before .before .before .loop .inv .3 p j u in
-    rw (u .entries) (stands-next st (c .before .before .before .read-at .ensures) (c .before .before .if2 .taken) (c .read-at2 .ensures) .inside)
+    let at-if2 = c .before .before in
+    let at-read-at = at-if2 .before in
+    let at-loop = at-read-at .before in
+    let at-pre = at-loop .before .before .before .before in
+    let (p, j, u) = at-pre .pre in
+    let st = at-loop .loop .inv .3 p j u in
+    rw (u .entries) (stands-next st (at-read-at .read-at .ensures) (at-if2 .if2 .taken) (c .read-at2 .ensures) .inside)
 
 -- a turn of the loop
 turn : (c : tie.After-read-at4 Inv-loop μ-loop) (p : List ℕ)
-    → Jumps p (c .before .before .before .before .before .before .before .before .before .before .before .before .args .ends .now) (c .before .before .before .before .before .before .before .before .before .before .before .before .args .ancestor .now) (c .before .before .before .before .before .before .before .before .before .before .before .before .args .k)
-    → Under p (c .before .before .before .before .before .before .before .before .before .before .before .before .args .ends .now) (c .before .before .before .before .before .before .before .before .before .before .before .before .args .k) (c .before .before .before .before .before .before .before .before .before .before .before .before .args .v) (c .before .before .before .before .before .before .before .before .before .before .before .before .args .y)
-    → Stands p (c .before .before .before .before .before .before .before .before .before .before .before .before .args .ends .now) (set (c .before .before .before .before .before .before .before .before .loop .ancestor) (c .before .before .before .before .before .before .before .before .loop .r) (c .read-at4 .result)) (c .before .before .before .before .before .before .before .before .before .before .before .before .args .k) (c .before .before .before .before .before .before .before .before .before .before .before .before .args .v) (c .before .before .before .before .before .before .before .before .before .before .before .before .args .y) (c .read-at4 .result)
+    → Jumps p (c .before .before .before .before .before .before .before .before .before .before .before .before .args .ends .now)
+    (c .before .before .before .before .before .before .before .before .before .before .before .before .args .ancestor .now)
+    (c .before .before .before .before .before .before .before .before .before .before .before .before .args .k)
+    → Under p (c .before .before .before .before .before .before .before .before .before .before .before .before .args .ends .now)
+    (c .before .before .before .before .before .before .before .before .before .before .before .before .args .k)
+    (c .before .before .before .before .before .before .before .before .before .before .before .before .args .v)
+    (c .before .before .before .before .before .before .before .before .before .before .before .before .args .y)
+    → Stands p (c .before .before .before .before .before .before .before .before .before .before .before .before .args .ends .now)
+    (set (c .before .before .before .before .before .before .before .before .loop .ancestor) (c .before .before .before .before .before .before .before .before .loop .r) (c .read-at4 .result))
+    (c .before .before .before .before .before .before .before .before .before .before .before .before .args .k)
+    (c .before .before .before .before .before .before .before .before .before .before .before .before .args .v)
+    (c .before .before .before .before .before .before .before .before .before .before .before .before .args .y) (c .read-at4 .result)
     × (c .before .before .before .before .before .before .before .before .loop .r < c .read-at4 .result)
 turn c p j u =
-    stands-halve (c .before .before .before .before .before .before .before .before .loop .inv .3 p j u) (c .before .before .before .before .before .before .before .read-at .ensures) (c .before .before .before .before .before .before .if2 .taken) (c .before .before .before .before .read-at2 .ensures)
+    stands-halve (c .before .before .before .before .before .before .before .before .loop .inv .3 p j u) (c .before .before .before .before .before .before .before .read-at .ensures)
+    (c .before .before .before .before .before .before .if2 .taken) (c .before .before .before .before .read-at2 .ensures)
     (c .before .before .before .read-at3 .ensures) (c .before .before .if3 .left) (c .read-at4 .ensures)
 
 returns : tie.Need-returns Inv-loop μ-loop
@@ -55,9 +69,15 @@ same-length : tie.Need-same-length Inv-loop μ-loop
 same-length c = search needs
 
 returns-2 : tie.Need-returns-2 Inv-loop μ-loop
-returns-2 c = λ p j u.
-    let st = c .before .before .before .before .before .before .loop .inv .3 p j u in
-    (st .jumps, stands-end (stands-next st (c .before .before .before .before .before .read-at .ensures) (c .before .before .before .before .if2 .taken) (c .before .before .read-at2 .ensures)) (c .before .read-at3 .ensures) (c .if3 .taken))
+returns-2 c =
+    let at-read-at3 = c .before in
+    let at-read-at2 = at-read-at3 .before in
+    let at-if2 = at-read-at2 .before .before in
+    let at-read-at = at-if2 .before in
+    let at-loop = at-read-at .before in
+    λ p j u.
+    let st = at-loop .loop .inv .3 p j u in
+    (st .jumps, stands-end (stands-next st (at-read-at .read-at .ensures) (at-if2 .if2 .taken) (at-read-at2 .read-at2 .ensures)) (at-read-at3 .read-at3 .ensures) (c .if3 .taken))
 
 read-at-requires-4 : tie.Need-read-at-requires-4 Inv-loop μ-loop
 read-at-requires-4 c κs = let h = inside (c .before .before .before) in omega arith
@@ -80,8 +100,10 @@ loop-less c =
 
 loop-again : tie.Need-loop-again Inv-loop μ-loop
 loop-again c =
-    let (p, j, u) = c .before .before .before .before .before .before .before .before .before .before .before .before .pre in
-    let inv = c .before .before .before .before .before .before .before .before .loop .inv in
+    let at-loop = c .before .before .before .before .before .before .before .before in
+    let at-pre = at-loop .before .before .before .before in
+    let (p, j, u) = at-pre .pre in
+    let inv = at-loop .loop .inv in
     (simp length-set (inv .0), simp length-set (inv .1), rw (u .entries) (turn c p j u .0 .inside), λ p j u. turn c p j u .0)
 
 same-length-2 : tie.Need-same-length-2 Inv-loop μ-loop

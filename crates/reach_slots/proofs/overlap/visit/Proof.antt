@@ -23,7 +23,12 @@ abbrev μ-loop : tie.MeasureT-loop
 
 -- the edge in slot k, whichever way its ends were read
 slot : (c : tie.Joined1 Inv-loop μ-loop) {p filed stops : List ℕ} {es : List Edge}
-    → Counting p (c .before .before .before .before .before .before .before .before .before .before .before .args .counts .now) es filed stops (c .before .before .before .before .before .before .before .before .before .before .before .args .ends .now) (c .before .before .before .before .before .before .before .before .before .before .before .args .first .now) (c .before .before .before .before .before .before .before .before .before .before .before .args .slots .now) (c .before .before .before .loop .ancestor) (c .before .before .before .loop .previous) (c .before .before .before .loop .overlaps) (c .before .before .before .loop .k) (c .before .before .before .loop .u) (c .before .before .before .loop .stop)
+    → Counting p (c .before .before .before .before .before .before .before .before .before .before .before .args .counts .now) es filed stops
+    (c .before .before .before .before .before .before .before .before .before .before .before .args .ends .now)
+    (c .before .before .before .before .before .before .before .before .before .before .before .args .first .now)
+    (c .before .before .before .before .before .before .before .before .before .before .before .args .slots .now) (c .before .before .before .loop .ancestor)
+    (c .before .before .before .loop .previous) (c .before .before .before .loop .overlaps) (c .before .before .before .loop .k) (c .before .before .before .loop .u)
+    (c .before .before .before .loop .stop)
     → Slot (c .before .before .before .before .before .before .before .before .before .before .before .args .counts .now) stops filed (c .before .before .before .loop .k) (c .if1 .u) (c .if1 .y) (c .if1 .stop)
 slot c d =
     let l = d .slotted .layout in
@@ -91,7 +96,16 @@ write-at-requires c κs =
     slot-inside d (slot (c .before .before .before .before .before .before .before .before .before .before .before) d)
 
 add-k : tie.Need-add-k Inv-loop μ-loop
-add-k c = let (p, es, filed, stops, g, e) = c .before .before .before .before .before .before .before .before .before .before .before .before .before .before .before .before .before .before .before .before .before .before .before .before .before .pre in omega (arith, g .few, c .before .before .before .before .before .before .before .before .before .before .before .before .before .before .before .before .loop-test .taken)
+add-k c =
+    let (
+      p,
+      es,
+      filed,
+      stops,
+      g,
+      e,
+    ) = c .before .before .before .before .before .before .before .before .before .before .before .before .before .before .before .before .before .before .before .before .before .before .before .before .before .pre in
+    omega (arith, g .few, c .before .before .before .before .before .before .before .before .before .before .before .before .before .before .before .before .loop-test .taken)
 
 loop-less : tie.Need-loop-less Inv-loop μ-loop
 loop-less c = search needs

@@ -27,7 +27,13 @@ is-damaged-requires c κs = good-count _ (sym (c .before .before .before .bad-co
 
 returns-3 : tie.Need-returns-3
 unfolding separateEarly
-returns-3 c = sym (pass _ _ (sym (c .before .before .before .before .before .bad-count .ensures) ∙ c .before .before .before .before .if1 .left) ∙ pass _ _ (c .before .before .before .if2 .left) ∙ stop _ _ (damage _ (c .before .before .of .ensures) (sym (c .before .is-damaged .ensures) ∙ c .if3 .taken)))
+returns-3 c =
+    let at-is-damaged = c .before in
+    let at-of = at-is-damaged .before in
+    let at-if2 = at-of .before in
+    let at-if1 = at-if2 .before in
+    let at-bad-count = at-if1 .before in
+    sym (pass _ _ (sym (at-bad-count .bad-count .ensures) ∙ at-if1 .if1 .left) ∙ pass _ _ (at-if2 .if2 .left) ∙ stop _ _ (damage _ (at-of .of .ensures) (sym (at-is-damaged .is-damaged .ensures) ∙ c .if3 .taken)))
 
 wide-requires : tie.Need-wide-requires
 wide-requires c κs = search needs
@@ -37,14 +43,36 @@ wide-requires-2 c κs = search needs
 
 returns-4 : tie.Need-returns-4
 unfolding separateEarly
-returns-4 c = sym (pass _ _ (sym (c .before .before .before .before .before .before .before .before .bad-count .ensures) ∙ c .before .before .before .before .before .before .before .if1 .left) ∙ pass _ _ (c .before .before .before .before .before .before .if2 .left) ∙ pass _ _ (damage _ (c .before .before .before .before .before .of .ensures) (sym (c .before .before .before .before .is-damaged .ensures) ∙ c .before .before .before .if3 .left)) ∙ stop _ _ (rank-tests _ _ _ (c .before .before .wide .ensures) (c .before .wide2 .ensures) (c .if4 .taken)))
+returns-4 c =
+    let at-wide2 = c .before in
+    let at-wide = at-wide2 .before in
+    let at-if3 = at-wide .before in
+    let at-is-damaged = at-if3 .before in
+    let at-of = at-is-damaged .before in
+    let at-if2 = at-of .before in
+    let at-if1 = at-if2 .before in
+    let at-bad-count = at-if1 .before in
+    sym (pass _ _ (sym (at-bad-count .bad-count .ensures) ∙ at-if1 .if1 .left) ∙ pass _ _ (at-if2 .if2 .left) ∙ pass _ _
+    (damage _ (at-of .of .ensures) (sym (at-is-damaged .is-damaged .ensures) ∙ at-if3 .if3 .left)) ∙ stop _ _ (rank-tests _ _ _ (at-wide .wide .ensures) (at-wide2 .wide2 .ensures) (c .if4 .taken)))
 
 list-refusal-requires : tie.Need-list-refusal-requires
 list-refusal-requires c κs = search needs
 
 returns-5 : tie.Need-returns-5
 unfolding separateEarly
-returns-5 c = c .list-refusal .ensures ∙ sym (pass _ _ (sym (c .before .before .before .before .before .before .before .before .before .bad-count .ensures) ∙ c .before .before .before .before .before .before .before .before .if1 .left) ∙ pass _ _ (c .before .before .before .before .before .before .before .if2 .left) ∙ pass _ _ (damage _ (c .before .before .before .before .before .before .of .ensures) (sym (c .before .before .before .before .before .is-damaged .ensures) ∙ c .before .before .before .before .if3 .left)) ∙ pass _ _ (rank-tests _ _ _ (c .before .before .before .wide .ensures) (c .before .before .wide2 .ensures) (c .before .if4 .left)) ∙ first-last _)
+returns-5 c =
+    let at-if4 = c .before in
+    let at-wide2 = at-if4 .before in
+    let at-wide = at-wide2 .before in
+    let at-if3 = at-wide .before in
+    let at-is-damaged = at-if3 .before in
+    let at-of = at-is-damaged .before in
+    let at-if2 = at-of .before in
+    let at-if1 = at-if2 .before in
+    let at-bad-count = at-if1 .before in
+    c .list-refusal .ensures ∙ sym (pass _ _ (sym (at-bad-count .bad-count .ensures) ∙ at-if1 .if1 .left) ∙ pass _ _ (at-if2 .if2 .left) ∙ pass _ _
+    (damage _ (at-of .of .ensures) (sym (at-is-damaged .is-damaged .ensures) ∙ at-if3 .if3 .left)) ∙ pass _ _ (rank-tests _ _ _ (at-wide .wide .ensures) (at-wide2 .wide2 .ensures) (at-if4 .if4 .left))
+    ∙ first-last _)
 
 pub separate-early-spec : {M : Type 1} → statement M
 separate-early-spec =
