@@ -1,5 +1,6 @@
-# The library for C and for what calls C: target/lib/libniqastul.a and target/lib/libniqastul.so, from the proved crate `exports`.
-#   make                       build (rt proves what it has not proved yet)
+# The library for C and for what calls C: target/lib/libniqastul.a and target/lib/libniqastul.so, from the proved crate
+# `exports`.
+#   make                       build (rt proves what it has not proved yet, and each crate is named when it is proved)
 #   make case                  the program `blocks` on the whole case of document 01
 #   make install PREFIX=/usr   the header, both libraries and niqastul.pc; DESTDIR is put before it
 #   make check                 the tests of the library and of the bindings
@@ -7,20 +8,24 @@
 PREFIX = /usr/local
 LIBDIR = $(PREFIX)/lib
 INCLUDEDIR = $(PREFIX)/include
-# A change of the header raises the minor number. The shared object is named by both numbers, so that a host built against another
-# header cannot load it. bindings/ names the version too; tests/test_interface.py holds them together.
+# A change of the header raises the minor number. The shared object is named by both numbers, so that a host built
+# against another header cannot load it. bindings/ names the version too; tests/hosts/test_interface.py holds them
+# together.
 VERSION = 0.6.0
 SONAME = libniqastul.so.$(basename $(VERSION))
 
 SOURCES := crates.txt $(shell find crates -name '*.rt' -o -name '*.antt')
+
+# rt with a line for each crate as it is proved; without python3 rt alone, which says all that it has to say
+RT = $(if $(shell command -v python3 2>/dev/null),python3 -B gate/progress.py) rt
 
 .PHONY: all case install uninstall check bench clean
 
 all: target/lib/libniqastul.a target/lib/libniqastul.so
 
 target/lib/libniqastul.a: $(SOURCES)
-	mkdir -p target/lib
-	rt staticlib exports >target/lib/rt.log 2>&1 || { cat target/lib/rt.log; exit 1; }
+	@mkdir -p target/lib
+	@$(RT) staticlib exports
 	cp target/staticlib/libexports.a $@
 
 target/lib/$(SONAME): target/lib/libniqastul.a
@@ -31,7 +36,7 @@ target/lib/libniqastul.so: target/lib/$(SONAME)
 
 # how far the proofs are is said on standard error, so that standard output is the case alone
 case:
-	@if command -v python3 >/dev/null; then PYTHONDONTWRITEBYTECODE=1 python3 tests/progress.py rt check blocks; else rt check blocks; fi >&2
+	@$(RT) check blocks >&2
 	@cd crates/blocks/data && ../../../target/bin/blocks
 
 define PKG_CONFIG

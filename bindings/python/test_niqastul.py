@@ -1,9 +1,12 @@
-"""The Python binding: document 01's nets on paper, its tables as lists and arrays, its refusals. Run by tests/run."""
+"""The Python binding: document 01's nets on paper, its tables as lists and arrays, its refusals; and with them the
+tests of what is lent and of what is loaded. Run by tests/run."""
 
 import unittest
 from array import array
 
 from niqastul import ABSENT, Index, Net, Refused, Separator, Share, relabel
+from test_buffers import Buffers  # to be run with these
+from test_loading import Loading  # likewise
 
 
 def whole_case():

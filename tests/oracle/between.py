@@ -32,8 +32,8 @@ def separate_refusal(parents, loads, one, other, flat, tables):
 
 
 def separate(parents, loads, one, other, flat, *tables):
-    """The tables: the list of marks, and the two comparison tables. Behind them the length of the list and the lowest of it are answered,
-    absent for "none"."""
+    """The tables: the list of marks, and the two comparison tables. Behind them the length of the list and the lowest
+    of it are answered, absent for "none"."""
     number = separate_refusal(parents, loads, one, other, flat, tables)
     if number not in (0, 23, 31):
         return number, *tables, None, None

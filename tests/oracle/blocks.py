@@ -1,4 +1,5 @@
-"""Document 01, Files, and document 02, Paper 4: one run of the program `blocks`, from the bytes of its three files to what it prints.
+"""Document 01, Files, and document 02, Paper 4: one run of the program `blocks`, from the bytes of its three files to
+what it prints.
 
     python3 -m oracle.blocks DIR        prints what `blocks` has to print when it is run in DIR"""
 
@@ -13,7 +14,8 @@ MAX_TIES = 4_000
 
 
 def refusal(marks, ties, want):
-    """For the order of refusals a run counts as one call. The numbers that are left out cannot arise: the net is made in the run."""
+    """For the order of refusals a run counts as one call. The numbers that are left out cannot arise: the net is made
+    in the run."""
     n = len(marks) // 4
     if n == 0:
         return 1
@@ -36,7 +38,8 @@ def refusal(marks, ties, want):
 
 
 def run(marks, ties, want):
-    """What is printed, of the bytes of marks.ord, ties.rec and want.rec; a file that cannot be opened counts as empty."""
+    """What is printed, of the bytes of marks.ord, ties.rec and want.rec; a file that cannot be opened counts as
+    empty."""
     number = refusal(marks, ties, want)
     if number:
         return f"refused {number}\n"
@@ -52,8 +55,9 @@ def run(marks, ties, want):
     for x in range(n):
         parent = "-" if parents[x] == ABSENT else parents[x]
         lines.append(f"{x} {order[x]} {parent} {loads[x]} {reach[x]} {tops[x]} {blocks[x]} {block_counts[x]}")
+    bound, volume = calls.bound_of(parents, pairs, tops), calls.volume_of(block_counts)
     quotient, remainder = calls.share_of(loads, k)
-    lines.append(f"bound {calls.bound_of(parents, pairs, tops)} volume {calls.volume_of(block_counts)} share {quotient} {remainder}")
+    lines.append(f"bound {bound} volume {volume} share {quotient} {remainder}")
     return "".join(line + "\n" for line in lines)
 
 

@@ -1,5 +1,5 @@
-"""Document 01, The book of ties. It is fed which nets and file each call was lent, the tie list of an addition, and whether the call
-was accepted, and never looks into parents, loads or a file's bytes."""
+"""Document 01, The book of ties. It is fed which nets and file each call was lent, the tie list of an addition, and
+whether the call was accepted, and never looks into parents, loads or a file's bytes."""
 
 from .forest import ties_of
 

@@ -1,6 +1,6 @@
-"""Document 01, The calls and Refused; document 02, Papers 2 to 4. Each call takes its tables as lists and answers a tuple: the number (0 if
-accepted), then the tables that it was lent to write, as they are afterwards, then its other answers, None if refused. No list that is
-given is changed."""
+"""Document 01, The calls and Refused; document 02, Papers 2 to 4. Each call takes its tables as lists and answers a
+tuple: the number (0 if accepted), then the tables that it was lent to write, as they are afterwards, then its other
+answers, None if refused. No list that is given is changed."""
 
 from .forest import ABSENT, links, loads_of, net_of, parents_of, reaches, ties_of
 
@@ -96,8 +96,8 @@ def start(parents, loads):
 # Where the forest moved
 
 def moved(before, after):
-    """Document 02, Paper 2, of a net's parents before and after: the lowest rank whose parent is now another, or absent, which stands for
-    "none moved", if all are as before. A load alone that rises moves nothing."""
+    """Document 02, Paper 2, of a net's parents before and after: the lowest rank whose parent is now another, or
+    absent, which stands for "none moved", if all are as before. A load alone that rises moves nothing."""
     return min((rank for rank in range(len(before)) if after[rank] != before[rank]), default=ABSENT)
 
 
@@ -160,7 +160,8 @@ def word(number):
 
 def words(data):
     """The 32-bit numbers of bytes, whole ones only."""
-    return [data[i] + 256 * data[i + 1] + 65536 * data[i + 2] + 16777216 * data[i + 3] for i in range(0, len(data) - 3, 4)]
+    whole = range(0, len(data) - 3, 4)
+    return [data[i] + 256 * data[i + 1] + 65536 * data[i + 2] + 16777216 * data[i + 3] for i in whole]
 
 
 def link_file(parents, loads):
@@ -210,8 +211,8 @@ def read(parents, loads, data):
 # Divide
 
 def cutting(parents, loads, limit):
-    """The carried load of each rank, and the cut marks. Go up the ranks. The carried load of x is its load plus that of its uncut
-    children; while it exceeds B, cut the child with the most carried load, of equals the lowest rank."""
+    """The carried load of each rank, and the cut marks. Go up the ranks. The carried load of x is its load plus that of
+    its uncut children; while it exceeds B, cut the child with the most carried load, of equals the lowest rank."""
     children = [[] for _ in parents]
     carried, cut = [], set()
     for x, parent in enumerate(parents):
@@ -295,8 +296,8 @@ def block_counts_of(n, ties, tie_blocks):
 
 
 def ties_taken_of(n, ties, tie_blocks, k):
-    """Document 02, Paper 3: for each rank, how many of its ties, in list order, the count took, up to and with the first that completes
-    the k, or all if none does."""
+    """Document 02, Paper 3: for each rank, how many of its ties, in list order, the count took, up to and with the
+    first that completes the k, or all if none does."""
     blocks_of = [[] for _ in range(n)]
     for (a, b), block in zip(ties, tie_blocks):
         blocks_of[a].append(block)
@@ -326,8 +327,8 @@ def volume_of(block_counts):
 
 
 def share_of(loads, k):
-    """Document 02, Paper 4: the even share, the total divided by k, with the whole quotient and the remainder. The total is dealt out,
-    one to each of the k in a round, as long as there is one for each."""
+    """Document 02, Paper 4: the even share, the total divided by k, with the whole quotient and the remainder. The
+    total is dealt out, one to each of the k in a round, as long as there is one for each."""
     rounds, left = 0, sum(loads)
     while left >= k:
         rounds, left = rounds + 1, left - k
@@ -356,8 +357,8 @@ def report_refusal(parents, loads, limit, k, flat, tables):
 
 
 def report(parents, loads, limit, k, flat, *tables):
-    """The tables: carried load, top, block, block loads, tie blocks, reach, block count, ties taken, and the two comparison tables.
-    Behind them bound, volume and the even share, its quotient and its remainder, are answered."""
+    """The tables: carried load, top, block, block loads, tie blocks, reach, block count, ties taken, and the two
+    comparison tables. Behind them bound, volume and the even share, its quotient and its remainder, are answered."""
     number = report_refusal(parents, loads, limit, k, flat, tables)
     n, ties = len(parents), ties_of(flat)
     if number == 23:
@@ -367,5 +368,6 @@ def report(parents, loads, limit, k, flat, *tables):
     carried, tops, blocks, block_loads = division(parents, loads, limit, k)
     tie_blocks = tie_blocks_of(ties, blocks)
     block_counts = block_counts_of(n, ties, tie_blocks)
-    return (0, carried, tops, blocks, block_loads, tie_blocks, reaches(parents, ties), block_counts, ties_taken_of(n, ties, tie_blocks, k),
-            *net_of(n, flat), bound_of(parents, ties, tops), volume_of(block_counts), *share_of(loads, k))
+    written = carried, tops, blocks, block_loads, tie_blocks, reaches(parents, ties), block_counts
+    answers = bound_of(parents, ties, tops), volume_of(block_counts), *share_of(loads, k)
+    return (0, *written, ties_taken_of(n, ties, tie_blocks, k), *net_of(n, flat), *answers)

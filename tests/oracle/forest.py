@@ -9,8 +9,8 @@ def ties_of(flat):
 
 
 def parents_of(n, ties):
-    """The elimination game: eliminate ranks upward. At x, let S be the higher neighbours of x, added ones included; make all of
-    S neighbours of each other; the parent of x is the lowest of S, or none if S is empty."""
+    """The elimination game: eliminate ranks upward. At x, let S be the higher neighbours of x, added ones included;
+    make all of S neighbours of each other; the parent of x is the lowest of S, or none if S is empty."""
     neighbours = [set() for _ in range(n)]
     for a, b in ties:
         neighbours[a].add(b)
@@ -53,7 +53,8 @@ def above(parents, x):
 
 
 def reaches(parents, ties):
-    """Reach of each x: how many marks above x have a tie with a mark under x. "Under x" means x itself or having x above."""
+    """Reach of each x: how many marks above x have a tie with a mark under x. "Under x" means x itself or having x
+    above."""
     over = [above(parents, x) for x in range(len(parents))]
     is_over = [set(marks) for marks in over]
     reached = [set() for _ in parents]

@@ -1,5 +1,5 @@
-"""Document 02, Paper 1: runs of neighbours. The runs are found as the drawing desk found them, by a scan of the whole list for each
-rank. Calls answer as those of document 01 do."""
+"""Document 02, Paper 1: runs of neighbours. The runs are found as the drawing desk found them, by a scan of the whole
+list for each rank. Calls answer as those of document 01 do."""
 
 from .calls import MAX_TIES, bad_count, fault
 from .forest import ties_of
@@ -11,7 +11,8 @@ def run_of(rank, ties):
 
 
 def index_of(n, ties):
-    """All runs laid end to end by rising rank, and beside them a table of n + 1 run starts, the last being the end of the last run."""
+    """All runs laid end to end by rising rank, and beside them a table of n + 1 run starts, the last being the end of
+    the last run."""
     starts, neighbours = [], []
     for rank in range(n):
         starts.append(len(neighbours))
@@ -61,7 +62,8 @@ def query_refusal(starts, neighbours, rank):
 
 
 def query(starts, neighbours, rank):
-    """A part of the index is told by where it starts and by its length; a refused query hands back an empty part, at 0."""
+    """A part of the index is told by where it starts and by its length; a refused query hands back an empty part, at
+    0."""
     number = query_refusal(starts, neighbours, rank)
     if number:
         return number, 0, 0

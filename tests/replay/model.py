@@ -65,8 +65,8 @@ class Model:
         return max(1, len(self.nets[net][0]))
 
     def worked(self, lengths, outcome, old, lent):
-        """A call with work tables: of another length than it needs they are 2, if nothing before 2 applies; else they end as zeros. The
-        cell that it is lent holds 7 before."""
+        """A call with work tables: of another length than it needs they are 2, if nothing before 2 applies; else they
+        end as zeros. The cell that it is lent holds 7 before."""
         number, *after, moved = outcome
         if number != 1 and any(len(table) != length for table, length in zip(lent, lengths)):
             number, after = 2, old
@@ -145,7 +145,8 @@ class Model:
         return f"separate {net}", *self.compared(lengths, outcome, lent, work)
 
     def compared(self, lengths, outcome, lent, work):
-        """A call given the net's own edges: its work tables end as zeros after 23 and 31 too. Each cell holds 7 before."""
+        """A call given the net's own edges: its work tables end as zeros after 23 and 31 too. Each cell holds 7
+        before."""
         number, after, cells = outcome[0], list(outcome[1:len(lent) + 1]), outcome[len(lent) + 1:]
         if number != 1 and [len(table) for table in work] != lengths:
             number, after = 2, lent

@@ -1,4 +1,5 @@
-/* Carries out a history of calls on nets and link files with the library, and prints a digest of every table after each.
+/* Carries out a history of calls on nets and link files with the library, and prints a digest of every table after
+ * each.
  *     replay SEED VERTICES CALLS
  * What is drawn, from the seed alone, is drawn in the same order by model.py, which knows nothing of this library. */
 #include <inttypes.h>
@@ -15,8 +16,11 @@ typedef struct {
 
 typedef struct {
     size_t length;
-    uint8_t byte[8 * ROOM];
+    uint8_t entry[8 * ROOM];
 } Bytes;
+
+/* A table as it is passed to a call. */
+#define LENT(table) (table).entry, (table).length
 
 static uint64_t state;
 static Table parents[NETS], weights[NETS], latest[NETS], starts[NETS], neighbours[NETS];
@@ -50,7 +54,7 @@ static uint32_t digest(const Table *t)
 static uint32_t digest_bytes(const Bytes *b)
 {
     uint64_t d = UINT64_C(14695981039346656037);
-    for (size_t i = 0; i < b->length; i++) d = fold(d, b->byte[i]);
+    for (size_t i = 0; i < b->length; i++) d = fold(d, b->entry[i]);
     return (uint32_t)(d >> 32);
 }
 
@@ -87,7 +91,7 @@ static void fill_file(int file, size_t n)
 {
     Bytes *b = &files[file];
     b->length = rarely() ? draw(8 * ROOM) : 8 * n;
-    for (size_t i = 0; i < b->length; i++) b->byte[i] = draw(3) == 0 ? 0 : 255;
+    for (size_t i = 0; i < b->length; i++) b->entry[i] = draw(3) == 0 ? 0 : 255;
 }
 
 /* A list of edges for n vertices: rarely a number too high, rarely a loop, rarely of odd length. */
@@ -109,7 +113,7 @@ static uint32_t vertices(int net)
 
 static void start(int net)
 {
-    printf("start %d %u", net, niqastul_start(parents[net].entry, parents[net].length, weights[net].entry, weights[net].length));
+    printf("start %d %u", net, niqastul_start(LENT(parents[net]), LENT(weights[net])));
 }
 
 static void add(int net)
@@ -118,8 +122,7 @@ static void add(int net)
     Table ends = lent(p->length), jump = lent(p->length), lower = lent(niqastul_add_lower(p->length, list.length));
     uint32_t moved = 7;
     latest[net] = list;
-    printf("add %d %u", net, niqastul_add(p->entry, p->length, w->entry, w->length, list.entry, list.length,
-        ends.entry, ends.length, jump.entry, jump.length, lower.entry, lower.length, &moved));
+    printf("add %d %u", net, niqastul_add(LENT(*p), LENT(*w), LENT(list), LENT(ends), LENT(jump), LENT(lower), &moved));
     print(&ends), print(&jump), print(&lower);
     printf(" %u", moved);
 }
@@ -130,22 +133,20 @@ static void join(int net, int other)
     Table ends = lent(p->length), jump = lent(p->length);
     Table lower = lent(p->length + q->length > ROOM ? ROOM : niqastul_join_lower(p->length, q->length));
     uint32_t moved = 7;
-    printf("join %d %d %u", net, other, niqastul_join(p->entry, p->length, w->entry, w->length, q->entry, q->length, v->entry, v->length,
-        ends.entry, ends.length, jump.entry, jump.length, lower.entry, lower.length, &moved));
+    printf("join %d %d %u", net, other, niqastul_join(LENT(*p), LENT(*w), LENT(*q), LENT(*v),
+        LENT(ends), LENT(jump), LENT(lower), &moved));
     print(&ends), print(&jump), print(&lower);
     printf(" %u", moved);
 }
 
 static void save(int net, int file)
 {
-    printf("save %d %d %u", net, file, niqastul_save(parents[net].entry, parents[net].length, weights[net].entry, weights[net].length,
-        files[file].byte, files[file].length));
+    printf("save %d %d %u", net, file, niqastul_save(LENT(parents[net]), LENT(weights[net]), LENT(files[file])));
 }
 
 static void read(int net, int file)
 {
-    printf("read %d %d %u", net, file, niqastul_read(parents[net].entry, parents[net].length, weights[net].entry, weights[net].length,
-        files[file].byte, files[file].length));
+    printf("read %d %d %u", net, file, niqastul_read(LENT(parents[net]), LENT(weights[net]), LENT(files[file])));
 }
 
 static void relabel(int net)
@@ -157,7 +158,7 @@ static void relabel(int net)
         uint32_t place = draw(n);
         order.entry[place] = draw(n);
     }
-    printf("relabel %u", niqastul_relabel(order.entry, order.length, list.entry, list.length, out.entry, out.length, inverse.entry, inverse.length));
+    printf("relabel %u", niqastul_relabel(LENT(order), LENT(list), LENT(out), LENT(inverse)));
     print(&out), print(&inverse);
 }
 
@@ -166,8 +167,8 @@ static void divide(int net)
     Table *p = &parents[net], *w = &weights[net];
     uint32_t limit = draw(12), blocks = draw(BLOCKS + 1);
     Table carried = lent(p->length), top = lent(p->length), block = lent(p->length), loads = lent(blocks);
-    printf("divide %d %u", net, niqastul_divide(p->entry, p->length, w->entry, w->length, limit, blocks,
-        carried.entry, carried.length, top.entry, top.length, block.entry, block.length, loads.entry, loads.length));
+    printf("divide %d %u", net, niqastul_divide(LENT(*p), LENT(*w), limit, blocks,
+        LENT(carried), LENT(top), LENT(block), LENT(loads)));
     print(&carried), print(&top), print(&block), print(&loads);
 }
 
@@ -177,16 +178,15 @@ static void report(int net)
     Table *p = &parents[net], *w = &weights[net], *list = &latest[net];
     size_t n = p->length, m = list->length / 2;
     uint32_t limit = 1 + draw(20), blocks = 1 + draw(BLOCKS);
-    Table carried = lent(n), top = lent(n), block = lent(n), loads = lent(blocks), edge_blocks = lent(m), reach = lent(n), count = lent(n);
-    Table taken = lent(n), its_parents = lent(n), its_weights = lent(n), ends = lent(n), jump = lent(n), lower = lent(n + m);
+    Table carried = lent(n), top = lent(n), block = lent(n), loads = lent(blocks), edge_blocks = lent(m);
+    Table reach = lent(n), count = lent(n), taken = lent(n), its_parents = lent(n), its_weights = lent(n);
+    Table ends = lent(n), jump = lent(n), lower = lent(niqastul_add_lower(n, list->length));
     uint64_t bound = 7, volume = 7;
     uint32_t quotient = 7, remainder = 7;
-    printf("report %d %u", net, niqastul_report(p->entry, n, w->entry, w->length, limit, blocks, list->entry, list->length,
-        carried.entry, carried.length, top.entry, top.length, block.entry, block.length, loads.entry, loads.length,
-        edge_blocks.entry, edge_blocks.length, reach.entry, reach.length, count.entry, count.length,
-        taken.entry, taken.length,
-        its_parents.entry, its_parents.length, its_weights.entry, its_weights.length,
-        ends.entry, ends.length, jump.entry, jump.length, lower.entry, lower.length, &bound, &volume, &quotient, &remainder));
+    printf("report %d %u", net, niqastul_report(LENT(*p), LENT(*w), limit, blocks, LENT(*list),
+        LENT(carried), LENT(top), LENT(block), LENT(loads), LENT(edge_blocks), LENT(reach), LENT(count), LENT(taken),
+        LENT(its_parents), LENT(its_weights), LENT(ends), LENT(jump), LENT(lower),
+        &bound, &volume, &quotient, &remainder));
     print(&carried), print(&top), print(&block), print(&loads), print(&edge_blocks), print(&reach), print(&count);
     print(&taken), print(&its_parents), print(&its_weights), print(&ends), print(&jump), print(&lower);
     printf(" %" PRIu64 " %" PRIu64 " %u %u", bound, volume, quotient, remainder);
@@ -200,9 +200,8 @@ static void separate(int net)
     uint32_t one = draw(vertices(net) + 1), other = draw(vertices(net) + 1), count = 7, lowest = 7;
     Table separator = lent(n), its_parents = lent(n), its_weights = lent(n);
     Table ends = lent(n), jump = lent(n), lower = lent(niqastul_add_lower(n, list->length));
-    printf("separate %d %u", net, niqastul_separate(p->entry, n, w->entry, w->length, one, other, list->entry, list->length,
-        separator.entry, separator.length, its_parents.entry, its_parents.length, its_weights.entry, its_weights.length,
-        ends.entry, ends.length, jump.entry, jump.length, lower.entry, lower.length, &count, &lowest));
+    printf("separate %d %u", net, niqastul_separate(LENT(*p), LENT(*w), one, other, LENT(*list),
+        LENT(separator), LENT(its_parents), LENT(its_weights), LENT(ends), LENT(jump), LENT(lower), &count, &lowest));
     print(&separator), print(&its_parents), print(&its_weights), print(&ends), print(&jump), print(&lower);
     printf(" %u %u", count, lowest);
 }
@@ -212,8 +211,7 @@ static void make_index(int net)
 {
     Table *list = &latest[net], added = edges(vertices(net));
     starts[net] = lent(vertices(net) + 1), neighbours[net] = lent(list->length + added.length);
-    printf("index %d %u", net, niqastul_index(list->entry, list->length, added.entry, added.length,
-        starts[net].entry, starts[net].length, neighbours[net].entry, neighbours[net].length));
+    printf("index %d %u", net, niqastul_index(LENT(*list), LENT(added), LENT(starts[net]), LENT(neighbours[net])));
     print(&starts[net]), print(&neighbours[net]);
 }
 
@@ -221,8 +219,7 @@ static void query(int net)
 {
     uint32_t rank = draw(vertices(net) + 1);
     uint64_t first = 7, count = 7;
-    printf("query %d %u", net, niqastul_query(starts[net].entry, starts[net].length, neighbours[net].entry, neighbours[net].length,
-        rank, &first, &count));
+    printf("query %d %u", net, niqastul_query(LENT(starts[net]), LENT(neighbours[net]), rank, &first, &count));
     printf(" %" PRIu64 " %" PRIu64, first, count);
 }
 

@@ -14,17 +14,24 @@
 
 The same on files, from the command line: python3 -m niqastul -h.
 
-A table is a list of integers or an array("I"), which is used without a copy. A call that is refused raises Refused, with every table
-as it was. Calls let other threads run; they must leave the tables of a running call alone.
+A table is an array("I"), or any other contiguous buffer of unsigned 32-bit numbers, as ctypes, memoryview and numpy
+have them. Its buffer says what it is, and how long; anything else is a TypeError that names the table. An argument may
+also be a list or any other row of integers, which is copied; a net's or an index's own table may not. Buffers are lent
+without a copy, but where a call only reads one that is read-only, unaligned, or shares memory with one that it writes.
+Two that it writes and that share memory are a ValueError.
 
-The library is the file that NIQASTUL_LIBRARY names, or that of this repository (make), or an installed one (make install)."""
+A call that is refused raises Refused. Whatever is raised, every table is as it was. Calls let other threads run: these
+cannot resize the tables of a running call, and must not write them, nor read what the call writes.
+
+The library is the file that NIQASTUL_LIBRARY names, or that of this repository (make), or an installed one (make
+install). One of another version than this package was written for is not loaded."""
 
 import collections
 import ctypes
-from array import array
 
-from .calls import Refused, call, rank_word, table, within, zeros
+from .calls import MAX_VERTICES, Refused, call, rank_word, within
 from .index import Index
+from .tables import length, table, zeros
 
 ABSENT = 0xFFFFFFFF
 MAX_LIMIT = 16_000_000
@@ -56,66 +63,79 @@ class Share(collections.namedtuple("Share", "quotient remainder blocks")):
 
 
 class Net:
-    """An elimination forest with a weight on each vertex. The tables may be read and written; a call checks them."""
+    """An elimination forest with a weight on each vertex. The tables may be read and written, and others put in their
+    place: a call checks what they are, and what they hold."""
 
     def __init__(self, vertices):
-        self.parents, self.weights = zeros(vertices), zeros(vertices)
+        n = within("vertices", vertices, MAX_VERTICES)
+        self.parents, self.weights = zeros(n), zeros(n)
         call("start", self.parents, self.weights)
 
     def add(self, edges):
         """Adds edges, as a whole or not at all. Answers the lowest rank whose parent is now another: who keeps a copy of the parents
         rereads them from there on. None if none moved; a weight alone that rises moves nothing."""
-        edges = table(edges)
-        return self._grow("add", [edges], len(edges) // 2)
+        edges = table("edges", edges)
+        return self._grow("add", [edges], length("edges", edges) // 2)
 
     def join(self, other):
         """Adds all edges of another net, which stays as it is; answers what add does."""
-        lent = [array("I", part) if other is self else table(part) for part in (other.parents, other.weights)]
-        return self._grow("join", lent, len(other.parents))
+        if not isinstance(other, Net):
+            raise TypeError(f"other: a Net, not {type(other).__name__}")
+        return self._grow("join", [other.parents, other.weights], length("other.parents", other.parents))
 
     def _grow(self, name, lent, more):
         """A call with work tables, the last of which is longer than the net by so many entries; answers where the forest moved."""
-        n, moved = len(self.parents), ctypes.c_uint32()
+        n, moved = self._vertices(), ctypes.c_uint32()
         call(name, self.parents, self.weights, *lent, zeros(n), zeros(n), zeros(n + more), moved)
         return told(moved)
 
     def save(self):
         """The net as bytes: for each vertex its parent and its weight, little-endian 32-bit numbers."""
-        saved = bytearray(8 * len(self.parents))
+        saved = bytearray(8 * self._vertices())
         call("save", self.parents, self.weights, saved)
         return bytes(saved)
 
     def read(self, saved):
         """Becomes the net that was saved, which has as many vertices."""
-        call("read", self.parents, self.weights, bytearray(saved))
+        call("read", self.parents, self.weights, saved)
 
     def divide(self, limit, blocks):
         """Cuts the forest into groups that carry at most a limit, packs the groups into blocks, and answers a Division."""
-        n, limit, blocks = len(self.parents), within(limit, MAX_LIMIT), within(blocks, MAX_BLOCKS)
-        its = Division(zeros(n), zeros(n), zeros(n), zeros(blocks))
+        limit, blocks = within("limit", limit, MAX_LIMIT), within("blocks", blocks, MAX_BLOCKS)
+        its = to_divide(self._vertices(), blocks)
         call("divide", self.parents, self.weights, limit, blocks, *its)
         return its
 
     def report(self, limit, blocks, edges):
         """Divides, and reports what the division costs, given all edges of the net in any order."""
-        n, limit, blocks, edges = len(self.parents), within(limit, MAX_LIMIT), within(blocks, MAX_BLOCKS), table(edges)
-        m = len(edges) // 2
-        its = Division(zeros(n), zeros(n), zeros(n), zeros(blocks))
-        tables, lent = [zeros(length) for length in (m, n, n, n)], self._to_compare(edges)
+        limit, blocks = within("limit", limit, MAX_LIMIT), within("blocks", blocks, MAX_BLOCKS)
+        edges = table("edges", edges)
+        n, m = self._vertices(), length("edges", edges) // 2
+        its, tables, lent = to_divide(n, blocks), [zeros(m), zeros(n), zeros(n), zeros(n)], to_compare(n, m)
         bound, volume, quotient, remainder = ctypes.c_uint64(), ctypes.c_uint64(), ctypes.c_uint32(), ctypes.c_uint32()
         call("report", self.parents, self.weights, limit, blocks, edges, *its, *tables, *lent, bound, volume, quotient, remainder)
         return Report(its, *tables, bound.value, volume.value, Share(quotient.value, remainder.value, blocks))
 
     def separate(self, one, other, edges):
         """What lies between two vertices of which neither is above the other, given all edges of the net in any order: a Separator."""
-        edges, separator, count, lowest = table(edges), zeros(len(self.parents)), ctypes.c_uint32(), ctypes.c_uint32()
-        call("separate", self.parents, self.weights, rank_word(one), rank_word(other), edges, separator, *self._to_compare(edges), count, lowest)
+        one, other, edges = rank_word("one", one), rank_word("other", other), table("edges", edges)
+        n, m, count, lowest = self._vertices(), length("edges", edges) // 2, ctypes.c_uint32(), ctypes.c_uint32()
+        separator = zeros(n)
+        call("separate", self.parents, self.weights, one, other, edges, separator, *to_compare(n, m), count, lowest)
         return Separator(separator[:count.value], told(lowest))
 
-    def _to_compare(self, edges):
-        """The comparison tables and work tables of a call that is given the net's own edges."""
-        n = len(self.parents)
-        return [zeros(length) for length in (n, n, n, n, n + len(edges) // 2)]
+    def _vertices(self):
+        return length("parents", self.parents)
+
+
+def to_divide(n, blocks):
+    """The tables of a division, to be written."""
+    return Division(zeros(n), zeros(n), zeros(n), zeros(blocks))
+
+
+def to_compare(n, m):
+    """The comparison tables and work tables of a call that is given a net's own edges."""
+    return [zeros(n), zeros(n), zeros(n), zeros(n), zeros(n + m)]
 
 
 def told(cell):
@@ -125,7 +145,7 @@ def told(cell):
 
 def relabel(order, edges):
     """An edge list in vertex numbers, as ranks in an order: the vertex order[r] has rank r."""
-    order, edges = table(order), table(edges)
-    out = zeros(len(edges))
-    call("relabel", order, edges, out, zeros(len(order)))
+    order, edges = table("order", order), table("edges", edges)
+    out = zeros(length("edges", edges))
+    call("relabel", order, edges, out, zeros(length("order", order)))
     return out

@@ -23,7 +23,7 @@ What is refused or fails changes no file; a file or folder that is there is repl
 
 GROW = "grow the net of ties and write its link file"
 
-MOVED = """Prints `moved R`, where R is the lowest rank whose parent is another than in {}: who has read that file rereads the
+MOVED = """Prints `moved R`, where R is the lowest rank whose parent is another than in {}: a reader of that file rereads the
 parents from there on. Or `none moved`; a load alone that rises moves nothing. out.link may be that file."""
 
 ADD = """add ties to a net and write the link file of all its ties

@@ -1,0 +1,76 @@
+"""The bindings' own tests, and the examples in C, Python and Rust: the same files give the same blocks, those of the
+oracle."""
+
+import os
+import pathlib
+import random
+import re
+import subprocess
+import sys
+import tempfile
+
+from oracle import blocks
+from support import ROOT, nets
+from support.files import THREE, file_of
+from support.harness import test
+
+ENVIRONMENT = os.environ | {"CARGO_TARGET_DIR": str(ROOT / "target" / "cargo")}
+PYTHON, RUST = ROOT / "bindings" / "python", ROOT / "bindings" / "rust"
+STRICT = ("-std=c99", "-Wall", "-Wextra", "-Werror")
+
+
+def printed(*command, **options):
+    return subprocess.run(command, check=True, capture_output=True, text=True, **{"env": ENVIRONMENT} | options)
+
+
+@test(at_least=1)
+def python_binding(t):
+    shown = printed(sys.executable, "test_niqastul.py", cwd=PYTHON).stderr
+    ran = int(re.search(r"Ran (\d+) tests", shown)[1])
+    t.true(ran >= 19 and shown.rstrip().endswith("OK"), shown)
+
+
+@test(at_least=1)
+def rust_binding(t):
+    shown = printed("cargo", "test", "--offline", "--quiet", cwd=RUST).stdout
+    t.true(sum(int(passed) for passed in re.findall(r"(\d+) passed", shown)) >= 30, shown)
+
+
+def built(folder):
+    """The examples, each as the words of its command. That in C is built against an installed library, by pkg-config,
+    with the shared one and with the static one."""
+    printed("make", "install", f"PREFIX={folder}/usr", cwd=ROOT)
+    found = printed("pkg-config", "--cflags", "--libs", "niqastul",
+                    env={"PATH": os.environ["PATH"], "PKG_CONFIG_PATH": f"{folder}/usr/lib/pkgconfig"}).stdout.split()
+    source, shared, static = ROOT / "examples" / "blocks.c", f"{folder}/shared", f"{folder}/static"
+    printed("gcc", *STRICT, source, *found, f"-Wl,-rpath,{folder}/usr/lib", "-o", shared)
+    printed("gcc", source, *(word for word in found if word != "-lniqastul"), "-l:libniqastul.a", "-o", static)
+    printed("cargo", "build", "--offline", "--quiet", "--example", "blocks", cwd=RUST)
+    rust = ROOT / "target" / "cargo" / "debug" / "examples" / "blocks"
+    return [shared], [static], [rust], [sys.executable, PYTHON / "blocks.py"]
+
+
+def some_files(rng):
+    """The bytes of three files."""
+    n = rng.randrange(1, 40)
+    order, edges = rng.sample(range(n), n), nets.flat(nets.ties(rng, n, rng.choice(nets.SHAPES)))
+    limit = len(edges) // 2 + 1 - rng.randrange(len(edges) // 4 + 1)
+    return file_of(*order), file_of(*edges), file_of(limit, rng.randrange(1, 5))
+
+
+@test(at_least=60)
+def examples(t):
+    with tempfile.TemporaryDirectory() as folder:
+        programs, paths = built(folder), [pathlib.Path(folder) / name for name in THREE]
+        for seed in range(15):
+            files = some_files(random.Random(seed))
+            for path, content in zip(paths, files):
+                path.write_bytes(content)
+            wanted = blocks.run(*files)
+            for program in programs:
+                ran = subprocess.run([*program, *paths], capture_output=True, text=True, env=ENVIRONMENT)
+                if wanted.startswith("refused"):
+                    told = wanted.split()[1] in ran.stdout + ran.stderr
+                    t.true(ran.returncode != 0 and told, program, seed, ran.stderr)
+                else:
+                    t.same(ran.stdout, wanted, program, seed)
