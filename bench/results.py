@@ -6,8 +6,11 @@ import pathlib
 import platform
 import sys
 
-# what the page begins with, in the file that keeps it too
+# what the tables begin with, in the file that keeps them too, which they end
 HEADING = "## Measured"
+
+# what the goals and the plots stand between in that file
+MARKS = ("<!-- goals -->\n", "<!-- /goals -->\n")
 
 # what is measured: its heading, its file, the column that ratios are taken to
 MEASURED = {
@@ -26,33 +29,6 @@ MEASURED = {
     "query": ("Querying an index for one rank", "query", "scan"),
     "threads": ("Growing a net in two threads", "threads", "one thread"),
 }
-
-PEERS = """Milliseconds of processor time, the best of 15 rounds, of 7 where there are more than 4,000,000 edges, in each of which
-every contender runs once. `niqastul` is the whole public call, with its refusals, weights and cleared work tables. `SuiteSparse`
-builds compressed columns from the edge list into tables that exist already and calls CXSparse's `cs_etree`; `cs_compress` goes
-through its triplet form. Neither checks its input or counts weights. `plain C` is the bare algorithm of the library, compiled by
-gcc -O3; `checked C` is plain C that finds the same refusals before it writes anything, as the library does. `one pass` reads the
-net's two tables once. SuiteSparse can neither add nor join: its time there is that of the whole net grown anew. All must come to
-the same parents. Adding tells where the forest moved; `compare all` is what a host that is not told does besides: plain C that
-compares all parents with a copy from before and copies them anew, and has to find the same rank. Dividing is measured with a
-limit of a quarter of a block's even share of the total, or the largest weight. A report grows the net of the edges and compares
-it, counts reaches, divides, and counts the blocks of each vertex along its edges, in the order of the list, until all are met. All
-block counts, edges taken and the even share have to be those of plain C, which lays the blocks of each vertex's edges side by side by a counting
-sort of both ends. SuiteSparse's time there is that of `cs_etree` with its columns, `cs_post` and `cs_counts`, whose column counts
-have to be the reaches. What lies between two vertices is asked of vertex 0 and the lowest that is not above it or, where all are,
-of vertex 0 and the last, which is refused with 31 and costs as much. On most nets nearly all of that time goes to growing the net of
-the list, to be compared with the net that is lent: `growing` is the library's own start and add of the same list. The walk up from
-both vertices goes over each rank once at most. It tells most on two paths to one top, whose list is the fastest to grow and where one
-vertex is above both; the longest list of vertices is written at the busy hub. `checked C` grows, weighs, compares, clears its work
-tables and walks; SuiteSparse's time there is that of `cs_etree` with its columns, the comparison of parents and the walk. An index
-is built of the list in two halves; `plain C` is there the
-counting sort without refusals, `cs_compress` SuiteSparse's compressed columns of each edge as two triplets, which have to be
-the same tables. A query tests all starts; `one pass` reads them once, and `scan` is what a query takes without an index: all
-edges of the list, each tested for the rank. Growing in two threads is
-`Net::add_in_threads` of the Rust crate on a new net: half of the list in each, then a join; a list of fewer than two edges to a
-vertex is left to one thread. Its times are elapsed ones, the best of 7 rounds, with the allocation of all tables; they need two
-processors that nothing else uses.
-"""
 
 
 def several_edges(row):
@@ -188,13 +164,27 @@ def measured(rows):
             yield heading, name, here, against
 
 
-def page(rows, plots):
-    """All tables, with the plots in a folder."""
-    parts = [f"{HEADING} on {datetime.date.today()}\n", PEERS, f"Machine: {processor()}, {platform.system()} {platform.release()}.\n",
-             "The last column is the factor from a net a tenth as large, the peer's in brackets.\n", "### Goals\n", goals(rows)]
-    for heading, name, here, against in measured(rows):
-        parts += [f"### {heading}\n", table(here, against), f"![{heading}]({plots}{name}.svg)\n"]
+def summary(rows, plots):
+    """The goals, and the plots in a folder, two in a row, each with a link to itself."""
+    links = [f"[![{heading}]({plots}{name}.svg)]({plots}{name}.svg)" for heading, name, _, _ in measured(rows)]
+    lines = [f"| {' | '.join(links[i:i + 2])} |" for i in range(0, len(links), 2)]
+    return "\n".join(["## Goals\n", goals(rows), "## Plots\n", "| | |", "|---|---|", *lines, ""])
+
+
+def tables(rows):
+    """A table for each call."""
+    parts = [f"{HEADING} on {datetime.date.today()}\n", f"Machine: {processor()}, {platform.system()}. Times are in milliseconds.",
+             "The last column is the factor from a net a tenth as large, the peer's in brackets.\n"]
+    for heading, _, here, against in measured(rows):
+        parts += [f"### {heading}\n", table(here, against)]
     return "\n".join(parts)
+
+
+def renewed(text, rows, plots):
+    """The text of the file that keeps measurements, with these in place of those that it has."""
+    before, rest = text.split(MARKS[0])
+    after = rest.split(MARKS[1])[1].split(HEADING)[0]
+    return "".join([before, MARKS[0], "\n", summary(rows, plots), "\n", MARKS[1], after, tables(rows)])
 
 
 def main(results, folder, kept=None):
@@ -202,10 +192,11 @@ def main(results, folder, kept=None):
     rows, folder = list(rows_of(results)), pathlib.Path(folder)
     for heading, name, here, _ in measured(rows):
         (folder / f"{name}.svg").write_text(plot(heading, here))
-    (folder / "results.md").write_text(page(rows, ""))
+    (folder / "results.md").write_text(summary(rows, "") + "\n" + tables(rows))
     if kept:
         kept = pathlib.Path(kept)
-        kept.write_text(kept.read_text().split(HEADING)[0] + page(rows, "../bench/results/"))
+        kept.write_text(renewed(kept.read_text(), rows, "../bench/results/"))
 
 
-main(*sys.argv[1:])
+if __name__ == "__main__":
+    main(*sys.argv[1:])

@@ -55,7 +55,7 @@ int main(int count, char **files)
     uint32_t *ends = table(n), *jump = table(n), *lower = table(lower_length);
     uint32_t *carried = table(n), *top = table(n), *block = table(n), *loads = table(k), *edge_blocks = table(m / 2);
     uint32_t *reach = table(n), *block_count = table(n), *edges_taken = table(n), *its_parents = table(n), *its_weights = table(n);
-    uint32_t moved; /* where the forest moved: of use to who has read it before */
+    uint32_t moved; /* where the forest moved: of use to a program that has read it before */
     uint64_t bound, volume;
     uint32_t quotient, remainder;
 

@@ -12,7 +12,7 @@
 #include <stdlib.h>
 
 static int process, processes;
-static uint32_t moved; /* where a forest moved: of use to who has read it before */
+static uint32_t moved; /* where a forest moved: of use to a program that has read it before */
 
 static void *room(size_t bytes)
 {
