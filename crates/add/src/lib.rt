@@ -42,7 +42,7 @@ pub fn add(
     if found.code != 0 {
         return GrowthAnswer::Refused(found.code);
     }
-    let long = insert::is_long(parents.len(), edges.len() / refusal::STRIDE);
+    let long = insert::is_long(parents.len(), edge::count(edges));
     let counted = long & !found.heavy;
     if is_rising_first(parents, edges, counted) {
         let lowest = rising::grow_list(parents, weights, edges, ends, jump, lower);

@@ -3,14 +3,13 @@
 use mathlib.Core.Path.{_≡_, refl, sym, ap, ap₂, _∙_}
 use mathlib.Core.Bool.{Bool, false, true≢false}
 use mathlib.Core.List.{List, [], _∷_}
-use Prim.Native.Nat.{ℕ, zero, suc, _+_, _/_, _≤_}
+use Prim.Native.Nat.{ℕ, zero, suc, _+_, _≤_}
 use native.Mathlib.Omega.{arith}
 use lib.Dec.{ltb}
 use lib.ListN.{length}
 use borrow.Author.Tests.{ltb-false}
 use Rattle.game.specs.Edge.{edges}
 use Rattle.game.specs.Net.{charges}
-use Rattle.game.proofs.Edges.{edges-length}
 use Rattle.game.proofs.Weights.{charges-count}
 use Rattle.refusal.specs.Limits.{maxTotal}
 use Rattle.refusal.specs.Refusal.{given, first, firstFault}
@@ -30,13 +29,13 @@ pub tables-right : (g : NetWithWork) (xs : List ℕ) {heavy : Bool} → badWork 
 tables-right g xs w e f =
     record { refused = λ h. absurd (h refl); passed = λ z. record { refusal = e; ends = good-work _ _ (g .work) w .0; few = f } }
 
--- too heavy, by the total that the code has summed and by half the list's length
-pub heavy-told : (n : ℕ) (xs : List ℕ) {sum all : ℕ} → sum ≡ all → first (firstFault n (edges xs) ∷ given (ltb maxTotal (all + charges (edges xs))) 20 ∷ []) ≡ addListRefusal n xs (ltb maxTotal (sum + length xs / 2))
-heavy-told n xs e =
-    ap (addListRefusal n xs) (ap₂ (λ (a b : ℕ). ltb maxTotal (a + b)) (sym e) (charges-count (edges xs) ∙ edges-length xs))
+-- too heavy, by the total that the code has summed and by the edges that it has counted
+pub heavy-told : (n : ℕ) (xs : List ℕ) {sum all m : ℕ} → sum ≡ all → m ≡ length (edges xs)
+    → first (firstFault n (edges xs) ∷ given (ltb maxTotal (all + charges (edges xs))) 20 ∷ []) ≡ addListRefusal n xs (ltb maxTotal (sum + m))
+heavy-told n xs e k = ap (addListRefusal n xs) (ap₂ (λ (a b : ℕ). ltb maxTotal (a + b)) (sym e) (charges-count (edges xs) ∙ sym k))
 
-pub light-few : (sum : ℕ) (xs : List ℕ) → ltb maxTotal (sum + length xs / 2) ≡ false → length (edges xs) ≤ maxTotal
-light-few sum xs e = omega (arith, ltb-false maxTotal (sum + length xs / 2) e, edges-length xs)
+pub light-few : (sum : ℕ) (xs : List ℕ) {m : ℕ} → m ≡ length (edges xs) → ltb maxTotal (sum + m) ≡ false → length (edges xs) ≤ maxTotal
+light-few sum xs {m} k e = omega (arith, ltb-false maxTotal (sum + m) e)
 
 -- of a list that is not too heavy the faults decide
 pub faults-decide : (k : ℕ) {heavy : Bool} → heavy ≡ false → first (k ∷ given heavy 20 ∷ []) ≡ k

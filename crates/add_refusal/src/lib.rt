@@ -36,10 +36,10 @@ pub fn read_tables(
     if weights.len() != n {
         return Found { code: 2, heavy };
     }
-    if edges.len() % refusal::STRIDE != 0 {
+    if refusal::not_whole(edges) {
         return Found { code: 2, heavy };
     }
-    let m = edges.len() / refusal::STRIDE;
+    let m = edge::count(edges);
     if growth::bad_work(n, n + m, ends.len(), jump.len(), lower.len()) {
         return Found { code: 2, heavy };
     }

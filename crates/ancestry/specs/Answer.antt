@@ -30,7 +30,7 @@ unfoldable pub separatorOf : List ℕ → Separator
 unfolding lowestOf
 separatorOf ys = separator (length ys) (lowestOf ys)
 
--- the lowest as one number, for who has no such type: absent for none
+-- the lowest as one number, for languages that have no such type: absent for none
 unfoldable pub lowestRank : Lowest → ℕ
 lowestRank (Vertex y) = y
 lowestRank Nothing = absent

@@ -13,10 +13,10 @@ use lib.ListN.{length, getD, set, drop, length-set}
 use lib.Seq.{getD-set-same, getD-set-other, drop-cons, drop-length}
 use borrow.Author.Tests.{eq-eqb, ne-eqb}
 use Rattle.game.specs.Table.{sum}
-use Rattle.game.specs.Edge.{Edge, _─_, lower, touches, edges}
+use Rattle.game.specs.Edge.{Edge, _─_, lower, touches}
 use Rattle.game.specs.Graph.{Proper}
 use Rattle.game.proofs.Bools.{or-left, or-right}
-use Rattle.game.proofs.Edges.{edges-drop, edges-end}
+use Rattle.edge.proofs.Reading.{AtEdge, edge-start, edge-next, edge-here, edge-end}
 use Rattle.game.proofs.Proper.{proper-head, proper-tail}
 use Rattle.bucket.specs.Ends.{endOf}
 use Rattle.block_count.specs.WaitingSteps.{nextAt, waiting, waitingIn, waits, Passable, Passes, Sweepable, Swept}
@@ -99,51 +99,45 @@ module _ {x low : ℕ} {block pending taken pending′ taken′ : List ℕ} {r :
     ap (λ (t : List ℕ). getD t z 0) (s .took) ∙ getD-set-other taken x z _ 0 d,
   )
 
--- where the pass stands: the list is read up to i, and what is left of it brings each vertex to where the whole list would have
-pub record SweepTurn (xs block pending₀ taken₀ pending taken : List ℕ) (w i : ℕ) : Type 0 where
-  pub within : i ≤ length xs
+-- where the pass stands: the list is read up to edge i of m, and what is left of it brings each vertex to where the whole list would have
+pub record SweepTurn (es : List Edge) (block pending₀ taken₀ pending taken : List ℕ) (m w i : ℕ) : Type 0 where
+  pub place : AtEdge es m i
   pub pending-long : length pending ≡ length block
   pub taken-long : length taken ≡ length block
-  pub proper : Proper (length block) (edges (drop i xs))
+  pub proper : Proper (length block) (drop i es)
   pub counted : w ≡ waitingIn pending
   pub same : (z : ℕ) → z < length block
-      → getD taken z 0 + waits block z (getD pending z 0) (edges (drop i xs)) ≡ getD taken₀ z 0 + waits block z (getD pending₀ z 0) (edges xs)
+      → getD taken z 0 + waits block z (getD pending z 0) (drop i es) ≡ getD taken₀ z 0 + waits block z (getD pending₀ z 0) es
 
-module _ {xs block pending₀ taken₀ : List ℕ} (g : Sweepable (edges xs) block pending₀ taken₀) where
-  pub sweep-start : {w : ℕ} → w ≡ waitingIn pending₀ → SweepTurn xs block pending₀ taken₀ pending₀ taken₀ w 0
-  sweep-start e = record { within = omega arith; pending-long = g .pending-long; taken-long = g .taken-long; proper = g .proper; counted = e; same = λ z h. refl }
+module _ {es : List Edge} {block pending₀ taken₀ : List ℕ} (g : Sweepable es block pending₀ taken₀) where
+  pub sweep-start : {m w : ℕ} → m ≡ length es → w ≡ waitingIn pending₀ → SweepTurn es block pending₀ taken₀ pending₀ taken₀ m w 0
+  sweep-start k e = record { place = edge-start k; pending-long = g .pending-long; taken-long = g .taken-long; proper = g .proper; counted = e; same = λ z h. refl }
 
-  module _ {pending taken : List ℕ} {w i : ℕ} (t : SweepTurn xs block pending₀ taken₀ pending taken w i) where
+  module _ {pending taken : List ℕ} {m w i : ℕ} (t : SweepTurn es block pending₀ taken₀ pending taken m w i) where
     -- no vertex waits
-    pub sweep-none : w ≡ 0 → Swept (edges xs) block pending₀ taken₀ taken
+    pub sweep-none : w ≡ 0 → Swept es block pending₀ taken₀ taken
     sweep-none e = record {
       each = λ z h.
           omega (
             arith,
             t .same z h,
-            ap (λ (p : ℕ). waits block z p (edges (drop i xs))) (waiting-entry pending z (sym (t .counted) ∙ e)),
-            waits-none block z (edges (drop i xs)),
+            ap (λ (p : ℕ). waits block z p (drop i es)) (waiting-entry pending z (sym (t .counted) ∙ e)),
+            waits-none block z (drop i es),
           );
     }
 
     -- the list is at its end
-    pub sweep-end : length xs ≤ i + 1 → Swept (edges xs) block pending₀ taken₀ taken
+    pub sweep-end : m ≤ i → Swept es block pending₀ taken₀ taken
     unfolding waits
-    sweep-end h = record { each = λ z l. omega (arith, t .same z l, ap (λ (es : List Edge). waits block z (getD pending z 0) es) (edges-end xs i h)) }
+    sweep-end h = record { each = λ z l. omega (arith, t .same z l, ap (λ (es : List Edge). waits block z (getD pending z 0) es) (edge-end (t .place) h)) }
 
-    module _ (h : i + 1 < length xs) where
-      a : ℕ
-      a = getD xs i 0
-
-      b : ℕ
-      b = getD xs (i + 1) 0
-
+    module _ (h : i < m) {a b : ℕ} (r : (a ─ b) ≡ getD es i (0 ─ 0)) where
       rest : List Edge
-      rest = edges (drop (i + 2) xs)
+      rest = drop (i + 1) es
 
-      split : edges (drop i xs) ≡ (a ─ b) ∷ rest
-      unfolding a b rest
-      split = edges-drop xs i h
+      split : drop i es ≡ (a ─ b) ∷ rest
+      unfolding rest
+      split = edge-here (t .place) h r
 
       proper-edge : Proper (length block) ((a ─ b) ∷ rest)
       proper-edge = subst (Proper (length block)) split (t .proper)
@@ -172,8 +166,7 @@ module _ {xs block pending₀ taken₀ : List ℕ} (g : Sweepable (edges xs) blo
       unfolding lower
       low-inside = omega (arith, inside .0, inside .1)
 
-      pub sweep-first : {low : ℕ} → low ≡ lower (getD xs i 0 ─ getD xs (i + 1) 0) → Passable (getD xs i 0) low block pending taken
-      unfolding a b
+      pub sweep-first : {low : ℕ} → low ≡ lower (a ─ b) → Passable a low block pending taken
       sweep-first e = record {
         inside = inside .0;
         low-inside = rw e low-inside;
@@ -182,13 +175,11 @@ module _ {xs block pending₀ taken₀ : List ℕ} (g : Sweepable (edges xs) blo
         small = fits-at (inside .0) at-first;
       }
 
-      module _ {low : ℕ} (e : low ≡ lower (getD xs i 0 ─ getD xs (i + 1) 0)) {p₁ t₁ : List ℕ} {r₁ : ℕ} (s₁ : Passes (getD xs i 0) low block pending taken p₁ t₁ r₁) where
+      module _ {low : ℕ} (e : low ≡ lower (a ─ b)) {p₁ t₁ : List ℕ} {r₁ : ℕ} (s₁ : Passes a low block pending taken p₁ t₁ r₁) where
         pub sweep-less : r₁ ≤ w
-        unfolding a
         sweep-less = omega (arith, t .counted, pass-count s₁ (omega (arith, inside .0, t .pending-long)))
 
-        pub sweep-second : Passable (getD xs (i + 1) 0) low block p₁ t₁
-        unfolding a b
+        pub sweep-second : Passable b low block p₁ t₁
         sweep-second = record {
           inside = inside .1;
           low-inside = rw e low-inside;
@@ -197,28 +188,26 @@ module _ {xs block pending₀ taken₀ : List ℕ} (g : Sweepable (edges xs) blo
           small = let o = pass-other s₁ (λ q. inside .2 (sym q)) in rw (o .0, o .1) (fits-at (inside .1) at-second);
         }
 
-        module _ {p₂ t₂ : List ℕ} {r₂ : ℕ} (s₂ : Passes (getD xs (i + 1) 0) low block p₁ t₁ p₂ t₂ r₂) where
+        module _ {p₂ t₂ : List ℕ} {r₂ : ℕ} (s₂ : Passes b low block p₁ t₁ p₂ t₂ r₂) where
           pub sweep-less-again : r₂ ≤ w - r₁
-          unfolding a b
           sweep-less-again =
               omega (arith, t .counted, pass-count s₁ (omega (arith, inside .0, t .pending-long)), pass-count s₂ (omega (arith, inside .1, pass-long s₁ .0, t .pending-long)))
 
           -- a vertex, after both
           both : (z : ℕ) → z < length block → getD t₂ z 0 + waits block z (getD p₂ z 0) rest ≡ getD taken z 0 + waits block z (getD pending z 0) ((a ─ b) ∷ rest)
-          unfolding a b
           both z l =
-              by-cases (ℕ-discrete z (getD xs i 0))
-              (λ (q : z ≡ getD xs i 0).
+              by-cases (ℕ-discrete z a)
+              (λ (q : z ≡ a).
               let f = pass-here s₁ q (omega (arith, inside .0, t .pending-long)) (omega (arith, inside .0, t .taken-long)) in
-              let o = pass-other s₂ (λ (k : z ≡ getD xs (i + 1) 0). inside .2 (sym q ∙ k)) in
+              let o = pass-other s₂ (λ (k : z ≡ b). inside .2 (sym q ∙ k)) in
               stepped (o .0 ∙ f .0) (o .1 ∙ f .1) (subst (λ (v : ℕ). touches v (a ─ b) ≡ true) (sym q) at-first))
-              (λ (d : z ≢ getD xs i 0).
-              by-cases (ℕ-discrete z (getD xs (i + 1) 0))
-              (λ (q : z ≡ getD xs (i + 1) 0).
+              (λ (d : z ≢ a).
+              by-cases (ℕ-discrete z b)
+              (λ (q : z ≡ b).
               let o = pass-other s₁ d in
               let f = pass-here s₂ q (omega (arith, inside .1, pass-long s₁ .0, t .pending-long)) (omega (arith, inside .1, pass-long s₁ .1, t .taken-long)) in
               stepped (f .0 ∙ ap (nextAt block z low) (o .0)) (f .1 ∙ ap₂ (λ (u v : ℕ). u + waiting v) (o .1) (o .0)) (subst (λ (v : ℕ). touches v (a ─ b) ≡ true) (sym q) at-second))
-              (λ (k : z ≢ getD xs (i + 1) 0).
+              (λ (k : z ≢ b).
               let o = pass-other s₁ d in
               let f = pass-other s₂ k in
               omega (arith, f .1, o .1, ap (λ (p : ℕ). waits block z p rest) (f .0 ∙ o .0), waits-away block z (getD pending z 0) (a ─ b) rest (at-none d k))))
@@ -233,10 +222,10 @@ module _ {xs block pending₀ taken₀ : List ℕ} (g : Sweepable (edges xs) blo
                     waits-here block z (getD pending z 0) (a ─ b) rest h,
                   )
 
-          pub sweep-step : SweepTurn xs block pending₀ taken₀ p₂ t₂ (w - r₁ - r₂) (i + 2)
-          unfolding a b rest
+          pub sweep-step : SweepTurn es block pending₀ taken₀ p₂ t₂ m (w - r₁ - r₂) (i + 1)
+          unfolding rest
           sweep-step = record {
-            within = omega arith;
+            place = edge-next (t .place) h;
             pending-long = pass-long s₂ .0 ∙ pass-long s₁ .0 ∙ t .pending-long;
             taken-long = pass-long s₂ .1 ∙ pass-long s₁ .1 ∙ t .taken-long;
             proper = proper-tail proper-edge;

@@ -11,10 +11,10 @@ use native.Mathlib.Omega.{arith}
 use lib.ListN.{length, length-map, getD, take, drop, replicate, length-replicate, getD-replicate, List·getD-eq-default}
 use Rattle.game.specs.Edge.{Edge, lower}
 use Rattle.game.proofs.Tables.{tabulate-length, tabulate-entry, tabulate-unique}
-use Rattle.bucket.specs.Ends.{endOf, below}
+use Rattle.bucket.specs.Ends.{endOf}
 use Rattle.bucket.specs.Filed.{lowerEnds}
 use Rattle.reach_slots.specs.Given.{lowerCount, lowerCounts}
-use Rattle.bucket.proofs.Reading.{filed-consecutive, filed-holds}
+use Rattle.bucket.proofs.Reading.{below, filed-consecutive, filed-holds}
 use Rattle.sorting.proofs.Counts.{count-le}
 use Rattle.sorting.proofs.Keys.{key-le, below-zero, below-le}
 use Rattle.sorting.proofs.Values.{values-length}

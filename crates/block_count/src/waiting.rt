@@ -85,17 +85,17 @@ pub fn settle(edges: &[u32], block: &[u32], pending: &mut [u32], edges_taken: &m
     requires { ⌜ Sweepable (edgesOf (now edges)) (now block) (now pending) (now «edges_taken») ⌝ }
     ensures { λ _. ⌜ Swept (edgesOf (now (edges .entry))) (now (block .entry)) (now (pending .entry)) (now («edges_taken» .entry)) (now («edges_taken» .exit)) ⌝ }
 {
+    let m = edge::count(edges);
     let mut waiting = count_waiting(pending);
     let mut i = 0;
-    while i + 1 < edges.len() {
+    while i < m {
         if waiting == 0 {
             return;
         }
-        let a = edges[i];
-        let b = edges[i + 1];
-        let low = end_of(false, a, b);
-        waiting -= pass(a, low, block, pending, edges_taken);
-        waiting -= pass(b, low, block, pending, edges_taken);
-        i += 2;
+        let e = edge::at(edges, i);
+        let low = end_of(false, e.a, e.b);
+        waiting -= pass(e.a, low, block, pending, edges_taken);
+        waiting -= pass(e.b, low, block, pending, edges_taken);
+        i += 1;
     }
 }

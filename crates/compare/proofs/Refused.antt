@@ -3,24 +3,23 @@
 use mathlib.Core.Path.{_≡_, _∙_}
 use mathlib.Core.Bool.{true, false}
 use mathlib.Core.List.{List}
-use Prim.Native.Nat.{ℕ, suc, _/_, _≤_, _<_}
+use Prim.Native.Nat.{ℕ, suc, _≤_, _<_}
 use native.Mathlib.Omega.{arith}
 use lib.Dec.{ltb}
 use lib.ListN.{length}
 use borrow.Author.Tests.{lt-ltb, le-ltb, ltb-false}
 use Rattle.game.specs.Edge.{edges}
-use Rattle.game.proofs.Edges.{edges-length}
 use Rattle.refusal.specs.Limits.{maxEdges}
 use Rattle.refusal.specs.Refusal.{firstFault}
 use Rattle.refusal.proofs.First.{pass, first-pass, first-end, first-none, given-none}
 use Rattle.refusal.proofs.Never.{end-not, other-not, fault-not}
 use Rattle.compare.specs.Likeness.{listRefusal}
 
-pub many-edges : (xs : List ℕ) → maxEdges < length xs / 2 → ltb maxEdges (length (edges xs)) ≡ true
-many-edges xs h = lt-ltb maxEdges (length (edges xs)) (omega (arith, edges-length xs))
+pub many-edges : (xs : List ℕ) {m : ℕ} → m ≡ length (edges xs) → maxEdges < m → ltb maxEdges (length (edges xs)) ≡ true
+many-edges xs k h = lt-ltb maxEdges (length (edges xs)) (omega arith)
 
-pub few-edges : (xs : List ℕ) → length xs / 2 ≤ maxEdges → ltb maxEdges (length (edges xs)) ≡ false
-few-edges xs h = le-ltb maxEdges (length (edges xs)) (omega (arith, edges-length xs))
+pub few-edges : (xs : List ℕ) {m : ℕ} → m ≡ length (edges xs) → m ≤ maxEdges → ltb maxEdges (length (edges xs)) ≡ false
+few-edges xs k h = le-ltb maxEdges (length (edges xs)) (omega arith)
 
 pub list-passed : (n : ℕ) (xs : List ℕ) → listRefusal n xs ≡ 0 → (firstFault n (edges xs) ≡ 0) × (length (edges xs) ≤ maxEdges)
 unfolding listRefusal

@@ -24,7 +24,7 @@ pub record Comparable (of : Net) (xs : List ℕ) (lent : Net) (work : Work) : Ty
   pub weights : length (of .weights) ≡ length (lent .parents)
 
 -- What it answers and leaves: whether the edges' net is the net, and the edges' net in the comparison tables. A list that is the net's own
--- stays filed for who reads it next; else the work tables are cleared.
+-- stays filed for the next reader; else the work tables are cleared.
 pub record Compared (of : Net) (es : List Edge) (was : Work) (same : Bool) (grown : Net) (work : Work) : Type 0 where
   pub answer : same ≡ sameNet of (netOf (length (of .parents)) es)
   pub net : grown ≡ netOf (length (of .parents)) es

@@ -50,7 +50,7 @@ fn grow_net(
 }
 
 // Grows the net of a list of edges into the comparison tables, and says whether it is the net. A list that is the net's own stays filed
-// for who reads it next; else the work tables end as zeros.
+// for the next reader; else the work tables end as zeros.
 pub fn compare(
     parents: &[u32],
     weights: &[u32],

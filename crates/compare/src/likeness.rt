@@ -12,7 +12,7 @@ pub fn list_refusal(n: usize, edges: &[u32]) -> u32
     if fault != 0 {
         return fault;
     }
-    if refusal::MAX_EDGES < edges.len() / refusal::STRIDE {
+    if refusal::MAX_EDGES < edge::count(edges) {
         return 20;
     }
     0

@@ -9,80 +9,64 @@ use native.Mathlib.Numerals.{add-one}
 use native.Mathlib.Omega.{arith}
 use lib.ListN.{length, getD, set, take, drop, length-set}
 use lib.Seq.{take-suc-set, take-all}
-use Rattle.game.specs.Edge.{Edge, _─_, lower, edges}
+use Rattle.game.specs.Edge.{Edge, _─_, lower}
 use Rattle.bucket.specs.Ends.{endOf}
-use Rattle.game.proofs.Edges.{edges-drop, edges-end, edges-length}
+use Rattle.edge.proofs.Reading.{AtEdge, edge-start, edge-next, edge-inside, edge-here, edge-end}
 use Rattle.refusal.specs.Refusal.{fault, firstFault}
 use Rattle.refusal.proofs.First.{first-none, first-last}
 use Rattle.refusal.proofs.Fault.{faultless}
 use Rattle.block_count.specs.BlockCount.{edgeBlock, edgeBlocks}
 
--- the first i edges have their blocks; the list is read at `at`
-pub record FillTurn (xs block out : List ℕ) (i at : ℕ) : Type 0 where
-  pub within : i ≤ length out
-  pub twice : at ≡ i + i
-  pub long : length out ≡ length (edges xs)
-  pub faultless : firstFault (length block) (edges (drop at xs)) ≡ 0
-  pub filled : take i out ++ edgeBlocks block (edges (drop at xs)) ≡ edgeBlocks block (edges xs)
+-- the first i of m edges have their blocks
+pub record FillTurn (es : List Edge) (block out : List ℕ) (m i : ℕ) : Type 0 where
+  pub place : AtEdge es m i
+  pub long : length out ≡ length es
+  pub faultless : firstFault (length block) (drop i es) ≡ 0
+  pub filled : take i out ++ edgeBlocks block (drop i es) ≡ edgeBlocks block es
 
-pub fill-start : {xs block out : List ℕ} → firstFault (length block) (edges xs) ≡ 0 → length out ≡ length (edges xs) → FillTurn xs block out 0 0
-fill-start f e = record { within = omega arith; twice = refl; long = e; faultless = f; filled = refl }
+pub fill-start : {es : List Edge} {block out : List ℕ} {m : ℕ} → m ≡ length es → firstFault (length block) es ≡ 0 → length out ≡ length es → FillTurn es block out m 0
+fill-start k f e = record { place = edge-start k; long = e; faultless = f; filled = refl }
 
-module _ {xs block out : List ℕ} {i at : ℕ} (t : FillTurn xs block out i at) where
-  -- an edge stands at `at`
-  pub fill-inside : i < length out → at + 1 < length xs
-  fill-inside h = omega (arith, t .twice, t .long, edges-length xs)
+module _ {es : List Edge} {block out : List ℕ} {m i : ℕ} (t : FillTurn es block out m i) where
+  module _ (h : i < m) {a b : ℕ} (r : (a ─ b) ≡ getD es i (0 ─ 0)) where
+    rest : List Edge
+    rest = drop (i + 1) es
 
-  module _ (h : i < length out) where
-    a : ℕ
-    a = getD xs at 0
+    split : drop i es ≡ (a ─ b) ∷ rest
+    unfolding rest
+    split = edge-here (t .place) h r
 
-    b : ℕ
-    b = getD xs (at + 1) 0
-
-    split : edges (drop at xs) ≡ (a ─ b) ∷ edges (drop (at + 2) xs)
-    unfolding a b
-    split = edges-drop xs at (fill-inside h)
-
-    sound : (fault (length block) (a ─ b) ≡ 0) × (firstFault (length block) (edges (drop (at + 2) xs)) ≡ 0)
+    sound : (fault (length block) (a ─ b) ≡ 0) × (firstFault (length block) rest ≡ 0)
     unfolding firstFault
     sound =
-        let f = first-none (fault (length block) (a ─ b)) (firstFault (length block) (edges (drop (at + 2) xs)) ∷ []) (rw split at (t .faultless)) in
-        (f .0, sym (first-last (firstFault (length block) (edges (drop (at + 2) xs)))) ∙ f .1)
+        let f = first-none (fault (length block) (a ─ b)) (firstFault (length block) rest ∷ []) (rw split at (t .faultless)) in
+        (f .0, sym (first-last (firstFault (length block) rest)) ∙ f .1)
 
-    -- its lower end is a vertex
-    pub fill-lower : endOf false (getD xs at 0 ─ getD xs (at + 1) 0) < length block
-    unfolding endOf lower a b
+    -- the edge's lower end is a vertex
+    pub fill-lower : endOf false (a ─ b) < length block
+    unfolding endOf lower
     fill-lower = let k = faultless (length block) a b (sound .0) in omega (arith, k .0, min-le-left a b)
 
-    pub fill-step : {v : ℕ} {out′ : List ℕ} → v ≡ getD block (endOf false (getD xs at 0 ─ getD xs (at + 1) 0)) 0 → out′ ≡ set out i v
-        → FillTurn xs block out′ (i + 1) (at + 2)
-    unfolding edgeBlocks edgeBlock endOf a b
+    pub fill-step : {v : ℕ} {out′ : List ℕ} → v ≡ getD block (endOf false (a ─ b)) 0 → out′ ≡ set out i v → FillTurn es block out′ m (i + 1)
+    unfolding edgeBlocks edgeBlock endOf rest
     fill-step {v} {out′} e q = record {
-      within = omega (arith, longer);
-      twice = omega (arith, t .twice);
-      long = longer ∙ t .long;
+      place = edge-next (t .place) h;
+      long = ap length q ∙ length-set out i v ∙ t .long;
       faultless = sound .1;
       filled =
-          ap (λ (l : List ℕ). l ++ edgeBlocks block (edges (drop (at + 2) xs))) (ap (take (i + 1)) q ∙ one-more)
-          ∙ append-assoc (take i out) (v ∷ []) (edgeBlocks block (edges (drop (at + 2) xs)))
-          ∙ ap (λ (u : ℕ). take i out ++ (u ∷ edgeBlocks block (edges (drop (at + 2) xs)))) e
-          ∙ ap (λ (es : List Edge). take i out ++ edgeBlocks block es) (sym split)
+          ap (λ (l : List ℕ). l ++ edgeBlocks block rest) (ap (take (i + 1)) q ∙ one-more)
+          ∙ append-assoc (take i out) (v ∷ []) (edgeBlocks block rest)
+          ∙ ap (λ (u : ℕ). take i out ++ (u ∷ edgeBlocks block rest)) e
+          ∙ ap (λ (fs : List Edge). take i out ++ edgeBlocks block fs) (sym split)
           ∙ t .filled;
     }
       where
-        longer : length out′ ≡ length out
-        longer = ap length q ∙ length-set out i v
-
         one-more : take (i + 1) (set out i v) ≡ take i out ++ (v ∷ [])
-        one-more = rw add-one (take-suc-set out i v h)
+        one-more = rw add-one (take-suc-set out i v (omega (arith, edge-inside (t .place) h, t .long)))
 
-  pub fill-end : length out ≤ i → out ≡ edgeBlocks block (edges xs)
+  pub fill-end : m ≤ i → out ≡ edgeBlocks block es
   unfolding edgeBlocks
   fill-end h =
       sym (append-nil out)
-      ∙ ap₂ (λ (l : List ℕ) (es : List Edge). l ++ edgeBlocks block es) (sym (take-all i out h)) (sym (edges-end xs at over))
+      ∙ ap₂ (λ (l : List ℕ) (fs : List Edge). l ++ edgeBlocks block fs) (sym (take-all i out (omega (arith, t .place .counted, t .long)))) (sym (edge-end (t .place) h))
       ∙ t .filled
-    where
-      over : length xs ≤ at + 1
-      over = omega (arith, t .twice, t .long, t .within, edges-length xs)

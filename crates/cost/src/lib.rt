@@ -51,11 +51,11 @@ pub fn write_edge_blocks(edges: &[u32], block: &[u32], edge_blocks: &mut [u32])
     requires { ⌜ length (now «edge_blocks») ≡ length (edgesOf (now edges)) ⌝ }
     ensures { λ _. ⌜ now («edge_blocks» .exit) ≡ edgeBlocks (now (block .entry)) (edgesOf (now (edges .entry))) ⌝ }
 {
+    let m = edge::count(edges);
     let mut i = 0;
-    let mut at = 0;
-    while i < edge_blocks.len() {
-        edge_blocks[i] = block[wide(bucket::end_of(false, edges[at], edges[at + 1]))];
+    while i < m {
+        let e = edge::at(edges, i);
+        edge_blocks[i] = block[wide(bucket::end_of(false, e.a, e.b))];
         i += 1;
-        at += 2;
     }
 }

@@ -20,10 +20,6 @@ lower (a ─ b) = min a b
 unfoldable pub upper : Edge → ℕ
 upper (a ─ b) = max a b
 
--- the same edge, written the other way round
-unfoldable pub turn : Edge → Edge
-turn (a ─ b) = b ─ a
-
 -- x is an end of the edge
 unfoldable pub touches : ℕ → Edge → Bool
 touches x (a ─ b) = eqb a x || eqb b x

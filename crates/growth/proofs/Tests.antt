@@ -2,15 +2,13 @@
 -- Assumes nothing.
 use mathlib.Core.Path.{_≡_, sym, ap, _∙_}
 use mathlib.Core.Bool.{Bool, true, false, _||_}
-use mathlib.Core.List.{List}
-use Prim.Native.Nat.{ℕ, _+_, _/_, _≤_, _<_}
+use Prim.Native.Nat.{ℕ, _+_, _≤_, _<_}
 use native.Mathlib.Omega.{arith}
 use lib.Dec.{ltb}
 use lib.ListN.{length}
 use borrow.Author.Tests.{lt-ltb, le-ltb}
 use Rattle.game.specs.Edge.{edges}
 use Rattle.game.specs.Net.{Net, total}
-use Rattle.game.proofs.Edges.{edges-length}
 use Rattle.refusal.specs.Limits.{maxTotal}
 use Rattle.refusal.specs.Refusal.{wrongLength}
 use Rattle.net.specs.Damage.{damagedBy, damaged}
@@ -20,10 +18,10 @@ use Rattle.growth.specs.Work.{Work, badWork}
 abbrev pub wrongWork : ℕ → ℕ → Work → Bool
 wrongWork n m w = wrongLength (length (w .ends)) n || wrongLength (length (w .jump)) n || wrongLength (length (w .lower)) m
 
--- and by half the list's length
-pub work-length : (n : ℕ) (xs : List ℕ) (w : Work) {t : Bool} → wrongWork n (n + length xs / 2) w ≡ t → badWork n (n + length (edges xs)) w ≡ t
+-- and by the number of edges that the code has counted
+pub work-length : (n : ℕ) (w : Work) {counted m : ℕ} {t : Bool} → counted ≡ m → wrongWork n (n + counted) w ≡ t → badWork n (n + m) w ≡ t
 unfolding badWork
-work-length n xs w e = ap (λ (m : ℕ). badWork n (n + m) w) (edges-length xs) ∙ e
+work-length n w k e = ap (λ (m : ℕ). badWork n (n + m) w) (sym k) ∙ e
 
 -- damage, by the total that the code has summed
 pub damage : (of : Net) {sum : ℕ} {t : Bool} → sum ≡ total of → damagedBy (of .parents) sum ≡ t → damaged of ≡ t

@@ -104,7 +104,7 @@ pub fn grow(
     raising.moved
 }
 
-// Grows the forest in the same way, with what is filed kept for who reads it next. The jumps are left as they stand.
+// Grows the forest in the same way, with what is filed kept for the next reader. The jumps are left as they stand.
 pub fn grow_kept(
     parents: &mut [u32],
     weights: &mut [u32],

@@ -5,12 +5,11 @@ use mathlib.Core.Logic.{_≢_, inr}
 use mathlib.Core.List.{List, [], _∷_, _++_, append-assoc, append-nil}
 use Prim.Native.Nat.{ℕ, _+_, _≤_, _<_, min}
 use native.Mathlib.Omega.{arith}
-use lib.ListN.{length, getD, set, drop, length-set}
+use lib.ListN.{length, getD, set, drop, length-set, drop-of-length-le}
 use Rattle.game.specs.Edge.{Edge, _─_, edges}
 use Rattle.game.specs.Game.{absent, forest}
 use Rattle.game.specs.Tree.{links}
 use Rattle.game.proofs.Conn.{within-refl, within-trans, within-both}
-use Rattle.game.proofs.Edges.{edges-drop, edges-end}
 use Rattle.game.proofs.Forest.{forest-same, forest-unique}
 use Rattle.game.proofs.Sound.{Sound, sound-true, true-sound, sound-parent, sound-set, getD-default}
 use Rattle.game.proofs.Within.{within-linked}
@@ -132,41 +131,40 @@ put-turned {p} {a} {b} x = record { same = x .same; sound = x .sound; quick = x 
       back = within-both (within-refl (links p)) (within-linked (same-linked (flip nil)));
     }
 
--- the list, with the loop at i
+-- the list, with the loop at edge i
 pub put-none : {p xs : List ℕ} → Table p → firstFault (length p) (edges xs) ≡ 0 → PutUpTo p xs p 0
 put-none {p} {xs} t f = record { same = refl; sound = t .sound; faultless = f; inside = omega arith; alike = alike-refl (links p ++ edges xs) }
 
-module _ {p xs q : List ℕ} {i : ℕ} (u : PutUpTo p xs q i) (h : i + 1 < length xs) where
-  here : Edge
-  here = getD xs i 0 ─ getD xs (i + 1) 0
-
+module _ {p xs q : List ℕ} {i a b : ℕ} (u : PutUpTo p xs q i) (h : i < length (edges xs)) (here : drop i (edges xs) ≡ (a ─ b) ∷ drop (i + 1) (edges xs)) where
   -- the edge that stands there has no fault, and neither have those behind it
-  split : (fault (length p) (getD xs i 0 ─ getD xs (i + 1) 0) ≡ 0) × (firstFault (length p) (edges (drop (i + 2) xs)) ≡ 0)
+  split : (fault (length p) (a ─ b) ≡ 0) × (firstFault (length p) (drop (i + 1) (edges xs)) ≡ 0)
   unfolding firstFault
-  split = let f = first-none (fault (length p) (getD xs i 0 ─ getD xs (i + 1) 0)) (firstFault (length p) (edges (drop (i + 2) xs)) ∷ []) (rw (edges-drop xs i h) at (u .faultless)) in
-      (f .0, sym (first-fault-on (length p) (getD xs i 0 ─ getD xs (i + 1) 0) (edges (drop (i + 2) xs)) (f .0)) ∙ (rw (edges-drop xs i h) at (u .faultless)))
+  split =
+      let f = first-none (fault (length p) (a ─ b)) (firstFault (length p) (drop (i + 1) (edges xs)) ∷ []) (rw here at (u .faultless)) in
+      (f .0, sym (first-fault-on (length p) (a ─ b) (drop (i + 1) (edges xs)) (f .0)) ∙ (rw here at (u .faultless)))
 
-  pub put-ends : (getD xs i 0 < length q) × (getD xs (i + 1) 0 < length q) × (getD xs i 0 ≡ getD xs (i + 1) 0 → ⊥)
-  put-ends = let k = faultless (length p) (getD xs i 0) (getD xs (i + 1) 0) (split .0) in
+  pub put-ends : (a < length q) × (b < length q) × (a ≡ b → ⊥)
+  put-ends =
+      let k = faultless (length p) a b (split .0) in
       (omega (arith, k .0, u .same), omega (arith, k .1, u .same), k .2)
 
-  pub put-next : {q′ : List ℕ} {steps : ℕ} → PutEdge q (getD xs i 0 ─ getD xs (i + 1) 0) q′ steps → PutUpTo p xs q′ (i + 2)
+  pub put-next : {q′ : List ℕ} {steps : ℕ} → PutEdge q (a ─ b) q′ steps → PutUpTo p xs q′ (i + 1)
   unfolding pending
   put-next {q′} x = record {
     same = x .same ∙ u .same;
     sound = x .sound;
     faultless = split .1;
     inside = omega arith;
-    alike = alike-trans (alike-more (edges (drop (i + 2) xs)) (x .alike)) (rw (append-assoc) (rw (edges-drop xs i h) at (u .alike)));
+    alike = alike-trans (alike-more (drop (i + 1) (edges xs)) (x .alike)) (rw (append-assoc) (rw here at (u .alike)));
   }
 
 -- alike with the old links and the whole list, the rest included, has the forest of them
 module _ {p xs q : List ℕ} {i : ℕ} (u : PutUpTo p xs q i) where
-  pub put-rest : (n : ℕ) → forest n (links q ++ edges (drop i xs)) ≡ forest n (links p ++ edges xs)
+  pub put-rest : (n : ℕ) → forest n (links q ++ drop i (edges xs)) ≡ forest n (links p ++ edges xs)
   put-rest n = forest-same n (u .alike .there) (u .alike .back)
 
-  pub put-all : length p ≤ absent → length xs ≤ i + 1 → q ≡ forest (length p) (links p ++ edges xs)
+  pub put-all : length p ≤ absent → length (edges xs) ≤ i → q ≡ forest (length p) (links p ++ edges xs)
   put-all small done = forest-unique small (sound-true q (u .sound)) (u .same) (whole .there) (whole .back)
     where
       whole : Alike (links q) (links p ++ edges xs)
-      whole = subst (λ (g : List Edge). Alike g (links p ++ edges xs)) (ap (λ (g : List Edge). links q ++ g) (edges-end xs i done) ∙ append-nil (links q)) (u .alike)
+      whole = subst (λ (g : List Edge). Alike g (links p ++ edges xs)) (ap (λ (g : List Edge). links q ++ g) (drop-of-length-le (edges xs) done) ∙ append-nil (links q)) (u .alike)

@@ -46,10 +46,10 @@ pub record PutEdge (p : List ℕ) (e : Edge) (p′ : List ℕ) (steps : ℕ) : T
   pub alike : Alike (links p′) (pending p e)
   pub quick : steps ≤ length p
 
--- putting in the edges of a list up to the place i promises a sound table that is alike, with those that are left
+-- putting in the first i edges of a list promises a sound table that is alike, with those that are left
 pub record PutUpTo (p xs p′ : List ℕ) (i : ℕ) : Type 0 where
   pub same : length p′ ≡ length p
   pub sound : sound p′ ≡ true
-  pub faultless : firstFault (length p) (edges (drop i xs)) ≡ 0
-  pub inside : i ≤ length xs
-  pub alike : Alike (links p′ ++ edges (drop i xs)) (links p ++ edges xs)
+  pub faultless : firstFault (length p) (drop i (edges xs)) ≡ 0
+  pub inside : i ≤ length (edges xs)
+  pub alike : Alike (links p′ ++ drop i (edges xs)) (links p ++ edges xs)

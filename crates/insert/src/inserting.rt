@@ -32,11 +32,11 @@ pub fn insert(
     let most = budget(parents.len());
     let progress = put_some(parents, edges, most);
     let at = progress.count;
-    if edges.len() <= at + 1 {
+    if edge::count(edges) <= at {
         growth::clear(ends, jump, lower, 0);
         return progress.moved;
     }
-    bucket::file_edges(parents, &edges[at..], ends, lower);
+    bucket::file_edges(parents, edge::from(edges, at), ends, lower);
     let grown = growth::regrow(parents, ends, jump, lower);
     table::smaller(progress.moved, grown)
 }

@@ -17,7 +17,7 @@ struct Pending {
     moved: u32,
 }
 
-// How far putting in has come: exchanges that were made, or a place in the list; and the lowest vertex that moved.
+// How far putting in has come: exchanges that were made, or edges that are in; and the lowest vertex that moved.
 pub struct Progress {
     pub count: usize,
     pub moved: u32,
@@ -87,23 +87,25 @@ fn put_edge(parents: &mut [u32], a: u32, b: u32, moved: u32) -> Progress
     }
 }
 
-// Puts in the edges of a list one by one, as long as fewer exchanges were made than the budget allows. Answers the place in the
-// list up to which they are in, and the lowest vertex that moved.
+// Puts in the edges of a list one by one, as long as fewer exchanges were made than the budget allows. Answers how many of them are in,
+// and the lowest vertex that moved.
 pub fn put_some(parents: &mut [u32], edges: &[u32], budget: usize) -> Progress
     requires { ⌜ Table (now parents) × (firstFault (length (now parents)) (edgesOf (now edges)) ≡ 0) × (budget ≤ maxVertices) ⌝ }
     ensures { λ r. ⌜ PutUpTo (now (parents .entry)) (now (edges .entry)) (now (parents .exit)) (r .count) × Fallen (now (parents .entry)) (now (parents .exit)) (r .moved) ⌝ }
 {
+    let m = edge::count(edges);
     let mut moved = Net::ABSENT;
     let mut steps = 0;
     let mut i = 0;
-    while i + 1 < edges.len() {
+    while i < m {
         if budget <= steps {
             return Progress { count: i, moved };
         }
-        let taken = put_edge(parents, edges[i], edges[i + 1], moved);
+        let e = edge::at(edges, i);
+        let taken = put_edge(parents, e.a, e.b, moved);
         steps += taken.count;
         moved = taken.moved;
-        i += 2;
+        i += 1;
     }
     Progress { count: i, moved }
 }

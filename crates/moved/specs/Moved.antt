@@ -21,7 +21,7 @@ unfoldable pub moved : (was is : Net) → Moved
 unfolding movedFrom
 moved was is = movedFrom 0 (was .parents) (is .parents)
 
--- the answer as one number, for who has no such type: absent, where none moved
+-- the answer as one number, for languages that have no such type: absent, where none moved
 unfoldable pub movedRank : Moved → ℕ
 movedRank (Lowest r) = r
 movedRank Nothing = absent

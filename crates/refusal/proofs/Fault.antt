@@ -2,14 +2,12 @@
 -- Assumes nothing.
 use mathlib.Core.Path.{_≡_, refl, sym, _∙_}
 use mathlib.Core.List.{List, [], _∷_, _++_}
-use Prim.Native.Nat.{ℕ, _+_, _≤_, _<_}
+use Prim.Native.Nat.{ℕ, _≤_, _<_}
 use native.Mathlib.Omega.{arith}
 use native.Mathlib.Decide.{ℕ-discrete, decLe}
 use mathlib.Core.Logic.{by-cases}
-use lib.ListN.{length, getD, drop}
 use borrow.Author.Tests.{le-leb, lt-leb, eq-eqb, ne-eqb}
-use Rattle.game.specs.Edge.{Edge, _─_, edges}
-use Rattle.game.proofs.Edges.{edges-drop, edges-end}
+use Rattle.game.specs.Edge.{Edge, _─_}
 use Rattle.game.proofs.Proper.{proper-nil, proper-cons, proper-head, proper-tail}
 use Rattle.game.specs.Graph.{Proper}
 use Rattle.refusal.specs.Refusal.{first, fault, firstFault}
@@ -66,17 +64,16 @@ fault-second n (e ∷ es) fs h =
     (λ (z : fault n e ≡ 0). first-fault-on n e (es ++ fs) z ∙ fault-second n es fs (sym (first-fault-on n e es z) ∙ h))
     (λ (d : fault n e ≡ 0 → ⊥). absurd (d (sym (first-fault-here n e es d) ∙ h)))
 
--- A scan of a flat list, two numbers at a time, with the scan at i: what is left decides.
-module _ (n : ℕ) (xs : List ℕ) (i : ℕ) where
-  pub scan-stop : i + 1 < length xs → (fault n (getD xs i 0 ─ getD xs (i + 1) 0) ≡ 0 → ⊥) → firstFault n (edges (drop i xs)) ≡ fault n (getD xs i 0 ─ getD xs (i + 1) 0)
-  scan-stop h f = rw (edges-drop xs i h) (first-fault-here n _ _ f)
+-- A scan of a list: what is left decides.
+pub scan-stop : (n : ℕ) {left rest : List Edge} {e : Edge} → left ≡ e ∷ rest → (fault n e ≡ 0 → ⊥) → firstFault n left ≡ fault n e
+scan-stop n q f = rw q (first-fault-here n _ _ f)
 
-  pub scan-on : i + 1 < length xs → fault n (getD xs i 0 ─ getD xs (i + 1) 0) ≡ 0 → firstFault n (edges (drop (i + 2) xs)) ≡ firstFault n (edges (drop i xs))
-  scan-on h f = rw (edges-drop xs i h) (sym (first-fault-on n _ _ f))
+pub scan-on : (n : ℕ) {left rest : List Edge} {e : Edge} → left ≡ e ∷ rest → fault n e ≡ 0 → firstFault n rest ≡ firstFault n left
+scan-on n q f = rw q (sym (first-fault-on n _ _ f))
 
-  pub scan-end : length xs ≤ i + 1 → firstFault n (edges (drop i xs)) ≡ 0
-  unfolding firstFault
-  scan-end h = rw (edges-end xs i h)
+pub scan-end : (n : ℕ) {left : List Edge} → left ≡ [] → firstFault n left ≡ 0
+unfolding firstFault
+scan-end n q = rw q
 
 -- a list without a fault is a proper graph on n vertices
 pub faultless-proper : (n : ℕ) (es : List Edge) → firstFault n es ≡ 0 → Proper n es

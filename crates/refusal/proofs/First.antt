@@ -98,14 +98,10 @@ pub length-right : (has needs : ℕ) → wrongLength has needs ≡ false → has
 unfolding wrongLength
 length-right has needs e = eqb-true has needs (not-false (eqb has needs) e)
 
--- a list of even length, or odd
+-- a list of even length
 pub even-list : (xs : List ℕ) → length xs % 2 ≡ 0 → notWhole xs ≡ false
 unfolding notWhole
 even-list xs e = rw (eq-eqb (length xs % 2) 0 e)
-
-pub odd-list : (xs : List ℕ) → (length xs % 2 ≡ 0 → ⊥) → notWhole xs ≡ true
-unfolding notWhole
-odd-list xs d = rw (ne-eqb (length xs % 2) 0 d)
 
 pub list-even : (xs : List ℕ) → notWhole xs ≡ false → length xs % 2 ≡ 0
 unfolding notWhole

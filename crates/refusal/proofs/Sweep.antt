@@ -3,12 +3,10 @@
 use mathlib.Core.Path.{_≡_, refl, _∙_}
 use mathlib.Core.Bool.{Bool, false, _||_, cond, or-assoc, or-false}
 use mathlib.Core.List.{List, [], _∷_}
-use Prim.Native.Nat.{ℕ, _+_, _≤_, _<_}
+use Prim.Native.Nat.{ℕ}
 use lib.Dec.{eqb, leb}
-use lib.ListN.{length, getD, drop}
-use Rattle.game.specs.Edge.{Edge, _─_, edges}
+use Rattle.game.specs.Edge.{Edge, _─_}
 use Rattle.game.proofs.Bools.{or-neither}
-use Rattle.game.proofs.Edges.{edges-drop, edges-end}
 use Rattle.refusal.specs.Refusal.{fault, firstFault}
 use Rattle.refusal.specs.Steps.{isFaulty, someFault}
 use Rattle.refusal.proofs.Fault.{first-fault-on}
@@ -29,12 +27,11 @@ none-first n (x ∷ es) e =
     let k = or-neither (isFaulty n x) (someFault n es) e in
     first-fault-on n x es (faultless-edge n x (k .0)) ∙ none-first n es (k .1)
 
--- The scan at i: what it found so far and what is left decide.
-module _ (n : ℕ) (xs : List ℕ) (i : ℕ) (found : Bool) where
-  pub sweep-on : {here : Bool} → i + 1 < length xs → here ≡ isFaulty n (getD xs i 0 ─ getD xs (i + 1) 0) → (found || here || someFault n (edges (drop (i + 2) xs))) ≡ (found || someFault n (edges (drop i xs)))
-  unfolding someFault
-  sweep-on h e = rw (e, edges-drop xs i h) (or-assoc found _ _)
+-- The scan of what is left: what it found so far and what is left decide.
+pub sweep-on : (n : ℕ) (found : Bool) {here : Bool} {left rest : List Edge} {e : Edge} → left ≡ e ∷ rest → here ≡ isFaulty n e → (found || here || someFault n rest) ≡ (found || someFault n left)
+unfolding someFault
+sweep-on n found q e = rw (e, q) (or-assoc found _ _)
 
-  pub sweep-end : length xs ≤ i + 1 → (found || someFault n (edges (drop i xs))) ≡ found
-  unfolding someFault
-  sweep-end h = rw (edges-end xs i h) (or-false found)
+pub sweep-end : (n : ℕ) (found : Bool) {left : List Edge} → left ≡ [] → (found || someFault n left) ≡ found
+unfolding someFault
+sweep-end n found q = rw q (or-false found)

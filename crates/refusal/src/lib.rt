@@ -10,16 +10,13 @@ ghost use mathlib.Core.Bool.{true};
 ghost use Prim.Native.Nat.{_+_};
 ghost use Rattle.game.specs.Edge.{edges as edgesOf, _─_};
 ghost use Rattle.refusal.specs.Limits.{maxVertices, maxTotal, maxEdges};
-ghost use Rattle.refusal.specs.Refusal.{badCount, fault, firstFault};
+ghost use Rattle.refusal.specs.Refusal.{badCount, notWhole, fault, firstFault};
 ghost use Rattle.refusal.specs.Verdict.{number};
 ghost use Rattle.refusal.specs.Answer.{verdict};
 ghost use Rattle.refusal.specs.Steps.{isFaulty, someFault};
 
 // The largest number of vertices of a net.
 pub const MAX_VERTICES: usize = 1_000_000;
-
-// The numbers to an edge in a flat list.
-pub const STRIDE: usize = 2;
 
 // The largest number of edges in a list that a call takes whole.
 pub const MAX_EDGES: usize = 16_000_000;
@@ -45,6 +42,13 @@ pub fn bad_count(n: usize) -> bool
     ensures { λ r. ⌜ r ≡ badCount n ⌝ }
 {
     n == 0 || MAX_VERTICES < n
+}
+
+// Refusal 2 of a flat list: its numbers do not make whole edges.
+pub fn not_whole(list: &[u32]) -> bool
+    ensures { λ r. ⌜ r ≡ notWhole (now (list .entry)) ⌝ }
+{
+    list.len() % edge::STRIDE != 0
 }
 
 // Refusal 4 or 5 of one edge, or 0.
@@ -74,11 +78,13 @@ fn is_faulty(n: u32, a: u32, b: u32) -> bool
 fn has_fault(n: u32, edges: &[u32]) -> bool
     ensures { λ r. ⌜ r ≡ someFault n (edgesOf (now (edges .entry))) ⌝ }
 {
+    let m = edge::count(edges);
     let mut found = false;
     let mut i = 0;
-    while i + 1 < edges.len() {
-        found = found | is_faulty(n, edges[i], edges[i + 1]);
-        i += 2;
+    while i < m {
+        let e = edge::at(edges, i);
+        found = found | is_faulty(n, e.a, e.b);
+        i += 1;
     }
     found
 }
@@ -98,13 +104,15 @@ pub fn list_fault(n: usize, edges: &[u32]) -> u32
 fn first_fault(n: usize, edges: &[u32]) -> u32
     ensures { λ r. ⌜ r ≡ firstFault n (edgesOf (now (edges .entry))) ⌝ }
 {
+    let m = edge::count(edges);
     let mut i = 0;
-    while i + 1 < edges.len() {
-        let number = edge_fault(n, edges[i], edges[i + 1]);
+    while i < m {
+        let e = edge::at(edges, i);
+        let number = edge_fault(n, e.a, e.b);
         if number != 0 {
             return number;
         }
-        i += 2;
+        i += 1;
     }
     0
 }

@@ -9,7 +9,7 @@ use lib.ListN.{length}
 use Rattle.game.specs.Edge.{edges}
 use Rattle.refusal.specs.Limits.{maxVertices}
 use Rattle.refusal.specs.Refusal.{given, first, badCount, wrongLength, notWhole, firstFault}
-use Rattle.refusal.proofs.First.{pass, stop, first-none, first-last, given-none, right-length, wrong-length, length-right, even-list, odd-list, list-even, good-count}
+use Rattle.refusal.proofs.First.{pass, stop, first-none, first-last, given-none, right-length, wrong-length, length-right, list-even, good-count}
 use Rattle.order.specs.Order.{badOrder}
 use Rattle.relabel.specs.Relabel.{relabelRefusal}
 use Rattle.game.specs.Table.{Below}
@@ -22,28 +22,28 @@ module _ (order xs : List ℕ) (out inverse : ℕ) where
   refused-count t = stop _ _ t
 
   module _ (count : badCount (length order) ≡ false) where
-    pub refused-odd : (length xs % 2 ≡ 0 → ⊥) → relabelRefusal order xs out inverse ≡ 2
+    pub refused-part : notWhole xs ≡ true → relabelRefusal order xs out inverse ≡ 2
     unfolding relabelRefusal
-    refused-odd d = pass _ _ count ∙ stop _ _ (odd-list xs d)
+    refused-part t = pass _ _ count ∙ stop _ _ t
 
-    module _ (even : length xs % 2 ≡ 0) where
+    module _ (even : notWhole xs ≡ false) where
       pub refused-out : (out ≡ length xs → ⊥) → relabelRefusal order xs out inverse ≡ 2
       unfolding relabelRefusal
       refused-out d =
-          pass _ _ count ∙ pass _ _ (even-list xs even) ∙ stop _ _ (wrong-length out (length xs) d)
+          pass _ _ count ∙ pass _ _ even ∙ stop _ _ (wrong-length out (length xs) d)
 
       module _ (same : out ≡ length xs) where
         pub refused-inverse : (inverse ≡ length order → ⊥) → relabelRefusal order xs out inverse ≡ 2
         unfolding relabelRefusal
         refused-inverse d =
-            pass _ _ count ∙ pass _ _ (even-list xs even) ∙ pass _ _ (right-length out (length xs) same)
+            pass _ _ count ∙ pass _ _ even ∙ pass _ _ (right-length out (length xs) same)
             ∙ stop _ _ (wrong-length inverse (length order) d)
 
         module _ (whole : inverse ≡ length order) where
           lengths-pass : relabelRefusal order xs out inverse ≡ first (given (badOrder order) 3 ∷ firstFault (length order) (edges xs) ∷ [])
           unfolding relabelRefusal
           lengths-pass =
-              pass _ _ count ∙ pass _ _ (even-list xs even) ∙ pass _ _ (right-length out (length xs) same)
+              pass _ _ count ∙ pass _ _ even ∙ pass _ _ (right-length out (length xs) same)
               ∙ pass _ _ (right-length inverse (length order) whole)
 
           pub refused-order : badOrder order ≡ true → relabelRefusal order xs out inverse ≡ 3

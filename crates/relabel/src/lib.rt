@@ -18,7 +18,7 @@ fn relabel_refusal(order: &[u32], edges: &[u32], out: usize, inverse: usize) -> 
     if bad_count(n) {
         return 1;
     }
-    if edges.len() % refusal::STRIDE != 0 {
+    if refusal::not_whole(edges) {
         return 2;
     }
     if out != edges.len() {

@@ -6,10 +6,8 @@
 use mathlib.Core.Path.{_≡_}
 use mathlib.Core.List.{List}
 use Prim.Native.Nat.{ℕ}
-use lib.ListN.{length}
 use Rattle.game.specs.Table.{tabulate}
 use Rattle.game.specs.Edge.{edges}
-use Rattle.game.specs.Net.{Net}
 use Rattle.refusal.specs.Verdict.{accepted}
 use Rattle.refusal.specs.Outcome.{Outcome}
 use Rattle.block_count.specs.BlockCount.{edgeBlocks}

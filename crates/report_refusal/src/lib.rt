@@ -45,7 +45,7 @@ pub fn wrong_lengths(
     ensures { λ r. ⌜ r ≡ wrongLengths blocks (now (parents .entry)) (now (weights .entry)) (now (edges .entry)) carried top block «block_loads» «edge_blocks» reach «block_count» «edges_taken» «compared_parents» «compared_weights» ends jump lower ⌝ }
 {
     let n = parents.len();
-    let m = edges.len() / refusal::STRIDE;
+    let m = edge::count(edges);
     divide::wrong_tables(
         n,
         table::wide(blocks),
@@ -65,7 +65,7 @@ pub fn wrong_lengths(
             jump,
             lower,
         )
-        | (edges.len() % refusal::STRIDE != 0)
+        | refusal::not_whole(edges)
 }
 
 // The number for which Report is refused before anything is compared, or 0. Whether a length is wrong was found out before.

@@ -8,9 +8,9 @@ use native.Mathlib.Omega.{arith}
 use lib.Dec.{eqb, leb, ltb}
 use lib.ListN.{length, getD, drop}
 use borrow.Author.Tests.{ltb-false}
-use Rattle.game.specs.Edge.{Edge, _─_, edges}
+use Rattle.game.specs.Edge.{Edge, _─_}
 use Rattle.game.proofs.Bools.{or-neither}
-use Rattle.game.proofs.Edges.{edges-drop, edges-end}
+use Rattle.edge.proofs.Reading.{AtEdge, edge-start, edge-next, edge-here, edge-end}
 use Rattle.refusal.specs.Refusal.{firstFault}
 use Rattle.refusal.proofs.Fault.{first-fault-on}
 use Rattle.bucket.specs.Ends.{endOf}
@@ -22,23 +22,25 @@ unfolding firstFault
 rises-faultless stop = refl
 rises-faultless {n} (rise {e = e} {es = es} f l r) = first-fault-on n e es f ∙ rises-faultless r
 
--- the list is read up to i, with the highest upper end at `last`: if what is left rises from there, the whole does
-pub record Reading (n : ℕ) (xs : List ℕ) (last i : ℕ) : Type 0 where
-  pub inside : i ≤ length xs
-  pub on : Rises n last (edges (drop i xs)) → Rises n 0 (edges xs)
+-- the list is read up to edge i of m, with the highest upper end at `last`: if what is left rises from there, the whole does
+pub record Reading (n : ℕ) (es : List Edge) (m last i : ℕ) : Type 0 where
+  pub place : AtEdge es m i
+  pub on : Rises n last (drop i es) → Rises n 0 es
 
-pub reading-start : (n : ℕ) (xs : List ℕ) → Reading n xs 0 0
-reading-start n xs = record { inside = omega arith; on = λ r. r }
+pub reading-start : (n : ℕ) {es : List Edge} {m : ℕ} → m ≡ length es → Reading n es m 0 0
+reading-start n e = record { place = edge-start e; on = λ r. r }
 
-module _ {n : ℕ} {xs : List ℕ} {last i : ℕ} (s : Reading n xs last i) where
-  pub reading-end : length xs ≤ i + 1 → Rises n 0 (edges xs)
-  reading-end h = s .on (subst (Rises n last) (sym (edges-end xs i h)) stop)
+module _ {n : ℕ} {es : List Edge} {m last i : ℕ} (s : Reading n es m last i) where
+  pub reading-end : m ≤ i → Rises n 0 es
+  reading-end h = s .on (subst (Rises n last) (sym (edge-end (s .place) h)) stop)
 
-  pub reading-edge : (h : i + 1 < length xs) {end : ℕ} → end ≡ endOf true (getD xs i 0 ─ getD xs (i + 1) 0)
-      → ((leb n end || eqb (getD xs i 0) (getD xs (i + 1) 0)) || ltb end last) ≡ false → Reading n xs end (i + 2)
-  reading-edge h {end} q t =
-      let (k, l) = or-neither (leb n end || eqb (getD xs i 0) (getD xs (i + 1) 0)) (ltb end last) t in
+  pub reading-edge : (h : i < m) {a b end : ℕ} → (a ─ b) ≡ getD es i (0 ─ 0) → end ≡ endOf true (a ─ b)
+      → ((leb n end || eqb a b) || ltb end last) ≡ false → Reading n es m end (i + 1)
+  reading-edge h {a} {b} {end} r q t =
+      let (k, l) = or-neither (leb n end || eqb a b) (ltb end last) t in
       record {
-        inside = omega arith;
-        on = λ r. s .on (subst (Rises n last) (sym (edges-drop xs i h)) (rise (upper-faultless n _ _ q k .1) (omega (arith, ltb-false end last l, q)) (subst (λ (y : ℕ). Rises n y (edges (drop (i + 2) xs))) q r)));
+        place = edge-next (s .place) h;
+        on = λ rest.
+            s .on (subst (Rises n last) (sym (edge-here (s .place) h r))
+            (rise (upper-faultless n _ _ q k .1) (omega (arith, ltb-false end last l, q)) (subst (λ (y : ℕ). Rises n y (drop (i + 1) es)) q rest)));
       }

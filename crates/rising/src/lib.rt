@@ -20,17 +20,17 @@ ghost use Rattle.rising.specs.Rising.{Rises, Takable};
 pub fn is_rising(n: usize, edges: &[u32]) -> bool
     ensures { λ r. ⌜ (r ≡ true → Rises n 0 (edgesOf (now (edges .entry)))) ⌝ }
 {
+    let m = edge::count(edges);
     let mut last = 0;
     let mut i = 0;
-    while i + 1 < edges.len() {
-        let a = edges[i];
-        let b = edges[i + 1];
-        let end = end_of(true, a, b);
-        if (n <= wide(end)) | (a == b) | (end < last) {
+    while i < m {
+        let e = edge::at(edges, i);
+        let end = end_of(true, e.a, e.b);
+        if (n <= wide(end)) | (e.a == e.b) | (end < last) {
             return false;
         }
         last = end;
-        i += 2;
+        i += 1;
     }
     true
 }
@@ -45,17 +45,17 @@ fn raise_list(edges: &[u32], weights: &mut [u32], parents: &mut [u32], jump: &mu
         × Untouched (now (parents .entry)) (now (jump .entry)) (now (parents .exit)) (now (jump .exit))
         × Moves (now (parents .entry)) (now (jump .entry)) absent (now (parents .exit)) (now (jump .exit)) r ⌝ }
 {
+    let m = edge::count(edges);
     let mut moved = Net::ABSENT;
     let mut i = 0;
-    while i + 1 < edges.len() {
-        let a = edges[i];
-        let b = edges[i + 1];
-        let u = end_of(false, a, b);
-        let y = end_of(true, a, b);
+    while i < m {
+        let e = edge::at(edges, i);
+        let u = end_of(false, e.a, e.b);
+        let y = end_of(true, e.a, e.b);
         let at = wide(u);
         weights[at] += 1;
         moved = growth::climb(u, y, parents, jump, moved);
-        i += 2;
+        i += 1;
     }
     moved
 }

@@ -3,7 +3,7 @@
 use mathlib.Core.Path.{_≡_, sym, ap, _∙_}
 use mathlib.Core.Bool.{false}
 use mathlib.Core.List.{List, _++_}
-use Prim.Native.Nat.{ℕ, _+_, _/_, _≤_}
+use Prim.Native.Nat.{ℕ, _+_, _≤_}
 use native.Mathlib.Omega.{arith}
 use lib.ListN.{length, take, drop, replicate, length-append, length-replicate}
 use lib.Seq.{take-at, length-take-le}
@@ -49,48 +49,44 @@ module _ (most n : ℕ) (h : n ≤ most) (t : List ℕ) (kept : length t ≡ len
   pub front-counted : n ≡ length (take n (t ++ drop n (replicate most 0)))
   front-counted = sym front-length
 
--- a table by vertex and edge
-by-both : (n : ℕ) (xs : List ℕ) → n + length xs / 2 ≤ vertexCapacity + edgeCapacity
-    → length (part (vertexCapacity + edgeCapacity) (n + length xs / 2)) ≡ n + length (edges xs)
-by-both n xs h = part-length (vertexCapacity + edgeCapacity) (n + length xs / 2) h ∙ ap (λ (m : ℕ). n + m) (sym (edges-length xs))
-
 -- the number of blocks is not refused, so it fits
 pub blocks-fit : (B k : ℕ) {blocks : ℕ} → badLimits B k ≡ false → blocks ≡ k → blocks ≤ maxBlocks
 blocks-fit B k good e = omega (arith, limits-not B k good .3)
 
--- the tables of growing
+-- the tables of growing, by the edges that the code has counted
 module _ {o xs : List ℕ} (r : Runnable o xs) where
   pub ends-fit : length xs ≤ endCapacity
   ends-fit = omega (arith, r .few, r .even, edges-length xs)
-
-  pub both-fit : length o + length xs / 2 ≤ vertexCapacity + edgeCapacity
-  both-fit = omega (arith, r .few, r .vertices, edges-length xs)
 
   pub grow-room : GrowRoom o xs (part endCapacity (length xs)) (net (part vertexCapacity (length o)) (part vertexCapacity (length o)))
   grow-room =
       let v = part-length vertexCapacity (length o) (r .vertices) in
       record { ranked = part-length endCapacity (length xs) ends-fit; parents = v; weights = v }
 
-  pub grow-work : GrowWork o xs (part vertexCapacity (length o)) (workOf (part vertexCapacity (length o)) (part vertexCapacity (length o)) (part (vertexCapacity + edgeCapacity) (length o + length xs / 2)))
-  grow-work =
-      let v = part-length vertexCapacity (length o) (r .vertices) in
-      record { inverted = v; ends = v; jump = v; lower = by-both (length o) xs both-fit }
+  module _ {m : ℕ} (counted : m ≡ length (edges xs)) where
+    pub both-fit : length o + m ≤ vertexCapacity + edgeCapacity
+    both-fit = omega (arith, r .few, r .vertices)
+
+    pub grow-work : GrowWork o xs (part vertexCapacity (length o)) (workOf (part vertexCapacity (length o)) (part vertexCapacity (length o)) (part (vertexCapacity + edgeCapacity) (length o + m)))
+    grow-work =
+        let v = part-length vertexCapacity (length o) (r .vertices) in
+        record { inverted = v; ends = v; jump = v; lower = part-length (vertexCapacity + edgeCapacity) (length o + m) both-fit ∙ ap (λ (k : ℕ). length o + k) counted }
 
 -- the tables of reporting
-module _ {o ranks : List ℕ} {B k : ℕ} {of : Net} (g : Ready o ranks B k of) where
-  pub half-fits : length ranks / 2 ≤ edgeCapacity
-  half-fits = omega (arith, g .few, edges-length ranks)
+module _ {o ranks : List ℕ} {B k : ℕ} {of : Net} (g : Ready o ranks B k of) {m : ℕ} (counted : m ≡ length (edges ranks)) where
+  pub edges-fit : m ≤ edgeCapacity
+  edges-fit = omega (arith, g .few)
 
-  pub sum-fits : length o + length ranks / 2 ≤ vertexCapacity + edgeCapacity
-  sum-fits = omega (arith, g .vertices, half-fits)
+  pub sum-fits : length o + m ≤ vertexCapacity + edgeCapacity
+  sum-fits = omega (arith, g .vertices, edges-fit)
 
   pub report-room : {blocks : ℕ} → blocks ≡ k
       → ReportRoom (length o) (length (edges ranks)) k
       (lent
-      (written (divisionOf (part vertexCapacity (length o)) (part vertexCapacity (length o)) (part vertexCapacity (length o)) (part maxBlocks blocks)) (part edgeCapacity (length ranks / 2))
+      (written (divisionOf (part vertexCapacity (length o)) (part vertexCapacity (length o)) (part vertexCapacity (length o)) (part maxBlocks blocks)) (part edgeCapacity m)
       (part vertexCapacity (length o)) (part vertexCapacity (length o)) (part vertexCapacity (length o)))
       (net (part vertexCapacity (length o)) (part vertexCapacity (length o)))
-      (workOf (part vertexCapacity (length o)) (part vertexCapacity (length o)) (part (vertexCapacity + edgeCapacity) (length o + length ranks / 2))))
+      (workOf (part vertexCapacity (length o)) (part vertexCapacity (length o)) (part (vertexCapacity + edgeCapacity) (length o + m))))
   report-room {blocks} is =
       let v = part-length vertexCapacity (length o) (g .vertices) in
       record {
@@ -98,7 +94,7 @@ module _ {o ranks : List ℕ} {B k : ℕ} {of : Net} (g : Ready o ranks B k of) 
         top = v;
         block = v;
         loads = part-length maxBlocks blocks (blocks-fit B k (g .limits) is) ∙ is;
-        edge-blocks = part-length edgeCapacity (length ranks / 2) half-fits ∙ sym (edges-length ranks);
+        edge-blocks = part-length edgeCapacity m edges-fit ∙ counted;
         reach = v;
         block-count = v;
         edges-taken = v;
@@ -106,5 +102,5 @@ module _ {o ranks : List ℕ} {B k : ℕ} {of : Net} (g : Ready o ranks B k of) 
         compared-weights = v;
         ends = v;
         jump = v;
-        lower = by-both (length o) ranks sum-fits;
+        lower = part-length (vertexCapacity + edgeCapacity) (length o + m) sum-fits ∙ ap (λ (j : ℕ). length o + j) counted;
       }

@@ -35,7 +35,7 @@ fn grow_ranked(
     ensures { λ _. ⌜ RankedNet (now (order .entry)) (now (edges .entry)) (now (ranked .exit)) (net (now (parents .exit)) (now (weights .exit))) ⌝ }
 {
     let n = order.len();
-    let both = n + edges.len() / refusal::STRIDE;
+    let both = n + edge::count(edges);
     let mut inverse = [0u32; VERTICES];
     let mut ends = [0u32; VERTICES];
     let mut jump = [0u32; VERTICES];
@@ -67,7 +67,7 @@ fn report_on(
     ensures { λ r. ⌜ PutText (now (text .entry)) 0 (netText (now (order .entry)) (edgesOf (now (ranked .entry))) limit blocks) (now (text .exit)) r ⌝ }
 {
     let n = order.len();
-    let m = ranked.len() / refusal::STRIDE;
+    let m = edge::count(ranked);
     let both = n + m;
     let k = wide(blocks);
     let mut carried = [0u32; VERTICES];

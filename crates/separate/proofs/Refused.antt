@@ -3,13 +3,12 @@
 use mathlib.Core.Path.{_≡_, refl}
 use mathlib.Core.Bool.{Bool, false, not, _||_}
 use mathlib.Core.List.{List}
-use Prim.Native.Nat.{ℕ, _+_, _/_, _%_, _<_}
+use Prim.Native.Nat.{ℕ, _+_, _%_, _<_}
 use lib.Dec.{eqb, leb}
 use lib.ListN.{length}
 use borrow.Author.Tests.{leb-false}
 use Rattle.game.specs.Edge.{edges}
 use Rattle.game.specs.Net.{Net, net, total}
-use Rattle.game.proofs.Edges.{edges-length}
 use Rattle.game.proofs.Bools.{or-neither}
 use Rattle.game.proofs.Sound.{true-sound}
 use Rattle.refusal.specs.Refusal.{wrongLength, notWhole, firstFault}
@@ -25,12 +24,13 @@ use Rattle.compare.specs.OwnSteps.{Tellable}
 use Rattle.separate.specs.Refused.{separateEarly}
 use Rattle.separate.specs.Separate.{SeparateTables, separateTables, wrongSeparate}
 
--- 2, by the lengths that the code compares
-pub wrong-lengths : (p w xs l cp cw e j lo : List ℕ) {o : Bool}
-    → o ≡ (wrongLength (length cp) (length p) || wrongLength (length cw) (length p) || (wrongLength (length e) (length p) || wrongLength (length j) (length p) || wrongLength (length lo) (length p + length xs / 2)))
-    → (not (eqb (length w) (length p)) || not (eqb (length l) (length p)) || o || not (eqb (length xs % 2) 0)) ≡ wrongSeparate (net p w) xs (separateTables l (net cp cw) (workOf e j lo))
-unfolding wrongSeparate wrongCompared badWork wrongLength notWhole
-wrong-lengths p w xs l cp cw e j lo z = rw (z, ← edges-length xs) refl
+-- 2, by the lengths that the code compares and the edges that it has counted
+pub wrong-lengths : (p w xs l cp cw e j lo : List ℕ) {m : ℕ} {o v : Bool} → m ≡ length (edges xs)
+    → o ≡ (wrongLength (length cp) (length p) || wrongLength (length cw) (length p) || (wrongLength (length e) (length p) || wrongLength (length j) (length p) || wrongLength (length lo) (length p + m)))
+    → v ≡ notWhole xs
+    → (not (eqb (length w) (length p)) || not (eqb (length l) (length p)) || o || v) ≡ wrongSeparate (net p w) xs (separateTables l (net cp cw) (workOf e j lo))
+unfolding wrongSeparate wrongCompared badWork wrongLength
+wrong-lengths p w xs l cp cw e j lo k z q = rw (z, q, k) refl
 
 -- the lengths where none is wrong
 pub record Lengths (of : Net) (xs : List ℕ) (was : SeparateTables) : Type 0 where

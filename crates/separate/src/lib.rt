@@ -38,14 +38,14 @@ pub fn separate(
         | (separator.len() != n)
         | compare::wrong_compared(
             n,
-            n + edges.len() / refusal::STRIDE,
+            n + edge::count(edges),
             compared_parents.len(),
             compared_weights.len(),
             ends.len(),
             jump.len(),
             lower.len(),
         )
-        | (edges.len() % refusal::STRIDE != 0);
+        | refusal::not_whole(edges);
     let code = refusals::separate_early(parents, weights, one, other, edges, wrong);
     if code != 0 {
         return SeparatorAnswer::Refused(code);

@@ -34,6 +34,9 @@ returns c =
     let e = c .before .before .read-tables .ensures .refused (c .if1 .taken) in
     ends-refused _ _ _ _ e (λ z. c .if1 .taken (e ∙ z)) refl
 
+count-requires : tie.Need-count-requires
+count-requires c κs = search needs
+
 is-long-requires : tie.Need-is-long-requires
 is-long-requires c κs = search needs
 
@@ -45,7 +48,7 @@ grow-list-requires c κs =
     let at-if2 = c .before .before .before .before .before in
     let at-is-rising-first = at-if2 .before in
     let at-is-long = at-is-rising-first .before .before .before in
-    let at-if1 = at-is-long .before in
+    let at-if1 = at-is-long .before .before in
     let at-read-tables = at-if1 .before .before in
     let (counted, r) = at-is-rising-first .is-rising-first .ensures (at-if2 .if2 .taken) in
     let l = counted-light (at-is-long .is-long .result) (at-read-tables .read-tables .result .heavy) counted in
@@ -78,7 +81,7 @@ returns-2 c =
     let at-if2 = at-grow-list .before .before .before .before .before .before in
     let at-is-rising-first = at-if2 .before in
     let at-is-long = at-is-rising-first .before .before .before in
-    let at-if1 = at-is-long .before in
+    let at-if1 = at-is-long .before .before in
     let at-read-tables = at-if1 .before .before in
     let (counted, r) = at-is-rising-first .is-rising-first .ensures (at-if2 .if2 .taken) in
     let l = counted-light (at-is-long .is-long .result) (at-read-tables .read-tables .result .heavy) counted in
@@ -91,7 +94,7 @@ returns-2 c =
 read-list-requires : tie.Need-read-list-requires
 read-list-requires c κs =
     let at-is-long = c .before .before .before .before .before in
-    let at-if1 = at-is-long .before in
+    let at-if1 = at-is-long .before .before in
     let at-read-tables = at-if1 .before .before in
     λ t. let l = counted-light (at-is-long .is-long .result) (at-read-tables .read-tables .result .heavy) t in
     (l, omega (arith, at-read-tables .read-tables .ensures .passed (at-if1 .if1 .left) .few l))
@@ -115,14 +118,14 @@ returns-3 : tie.Need-returns-3
 unfolding verdict
 returns-3 c =
     let at-read-list = c .before .before .before in
-    let at-if1 = at-read-list .before .before .before .before .before .before .before in
+    let at-if1 = at-read-list .before .before .before .before .before .before .before .before in
     let at-read-tables = at-if1 .before .before in
     list-refused (at-read-tables .read-tables .ensures .passed (at-if1 .if1 .left)) (at-read-list .read-list .ensures) (c .if3 .taken)
 
 extend-requires : tie.Need-extend-requires
 extend-requires c κs =
     let at-if3 = c .before .before .before .before .before in
-    let at-if1 = at-if3 .before .before .before .before .before .before .before .before .before .before in
+    let at-if1 = at-if3 .before .before .before .before .before .before .before .before .before .before .before in
     let at-read-tables = at-if1 .before .before in
     let r : tie.After-read-list = at-if3 .before .before .before in
     let o = at-read-tables .read-tables .ensures .passed (at-if1 .if1 .left) in
@@ -153,7 +156,7 @@ unfolding addOutcome
 returns-4 c =
     let at-extend = c .before .before .before .before .before .before .before .before .before .before .before in
     let at-if3 = at-extend .before .before .before .before .before .before in
-    let at-if1 = at-if3 .before .before .before .before .before .before .before .before .before .before in
+    let at-if1 = at-if3 .before .before .before .before .before .before .before .before .before .before .before in
     let at-read-tables = at-if1 .before .before in
     let r : tie.After-read-list = at-if3 .before .before .before in
     let o = at-read-tables .read-tables .ensures .passed (at-if1 .if1 .left) in
@@ -173,6 +176,7 @@ add-spec =
     same-length-4
     same-length-5
     returns
+    count-requires
     is-long-requires
     is-rising-first-requires
     grow-list-requires

@@ -1,39 +1,28 @@
-use mathlib.Core.Path.{_≡_, sym, _∙_}
-use Prim.Native.Nat.{_-_, _≤_}
-use lib.ListN.{length, drop}
+use mathlib.Core.Path.{_≡_, refl, sym, _∙_}
+use Prim.Native.Nat.{_-_}
+use lib.ListN.{drop}
 use borrow.Author.Needs.{needs}
 use Rattle.game.specs.Edge.{edges as edgesOf}
+use Rattle.edge.proofs.Reading.{AtEdge, edge-start, edge-next, edge-inside, edge-here, edge-end}
 use Rattle.refusal.specs.Refusal.{firstFault}
 use Rattle.refusal.proofs.Fault.{scan-stop, scan-on, scan-end}
 use Rattle.refusal.proofs.first_fault.Statement.{statement}
 use Rattle.refusal.proofs.first_fault.Tie as tie
 
 abbrev Inv-loop : tie.InvT-loop
-Inv-loop n edges i₀ i = (i ≤ length edges) × (firstFault n (edgesOf (drop i edges)) ≡ firstFault n (edgesOf edges))
+Inv-loop n edges m i₀ i = AtEdge (edgesOf edges) m i × (firstFault n (drop i (edgesOf edges)) ≡ firstFault n (edgesOf edges))
 
 abbrev μ-loop : tie.MeasureT-loop
-μ-loop n edges i₀ i = length edges - i
+μ-loop n edges m i₀ i = m - i
+
+count-requires : tie.Need-count-requires Inv-loop μ-loop
+count-requires c κs = search needs
 
 loop-holds : tie.Need-loop-holds Inv-loop μ-loop
-loop-holds c = search needs
+loop-holds c = (edge-start (c .count .ensures), refl)
 
-add-loop : tie.Need-add-loop Inv-loop μ-loop
-add-loop c = search needs
-
-mul-edge-fault : tie.Need-mul-edge-fault Inv-loop μ-loop
-mul-edge-fault c = search needs
-
-shared-slice-read-edge-fault : tie.Need-shared-slice-read-edge-fault Inv-loop μ-loop
-shared-slice-read-edge-fault c = search needs
-
-add-edge-fault : tie.Need-add-edge-fault Inv-loop μ-loop
-add-edge-fault c = search needs
-
-mul-edge-fault-2 : tie.Need-mul-edge-fault-2 Inv-loop μ-loop
-mul-edge-fault-2 c = search needs
-
-shared-slice-read-edge-fault-2 : tie.Need-shared-slice-read-edge-fault-2 Inv-loop μ-loop
-shared-slice-read-edge-fault-2 c = search needs
+at-requires : tie.Need-at-requires Inv-loop μ-loop
+at-requires c κs = edge-inside (c .before .loop .inv .0) (c .loop-test .taken)
 
 edge-fault-requires : tie.Need-edge-fault-requires Inv-loop μ-loop
 edge-fault-requires c κs = search needs
@@ -41,11 +30,12 @@ edge-fault-requires c κs = search needs
 returns : tie.Need-returns Inv-loop μ-loop
 returns c =
     let at-edge-fault = c .before in
-    let at-loop-test = at-edge-fault .before .before .before in
-    let at-loop = at-loop-test .before in
+    let at-at = at-edge-fault .before in
+    let at-loop-test = at-at .before in
+    let t = at-loop-test .before .loop .inv in
     at-edge-fault .edge-fault .ensures
-    ∙ sym (scan-stop _ _ _ (at-loop-test .loop-test .taken) (λ e. c .if1 .taken (at-edge-fault .edge-fault .ensures ∙ e)))
-    ∙ at-loop .loop .inv .1
+    ∙ sym (scan-stop _ (edge-here (t .0) (at-loop-test .loop-test .taken) (at-at .at .ensures)) (λ e. c .if1 .taken (at-edge-fault .edge-fault .ensures ∙ e)))
+    ∙ t .1
 
 add-i : tie.Need-add-i Inv-loop μ-loop
 add-i c = search needs
@@ -56,15 +46,16 @@ loop-less c = search needs
 loop-again : tie.Need-loop-again Inv-loop μ-loop
 loop-again c =
     let at-edge-fault = c .before in
-    let at-loop-test = at-edge-fault .before .before .before in
-    let at-loop = at-loop-test .before in (
-      search needs,
-      scan-on _ _ _ (at-loop-test .loop-test .taken) (sym (at-edge-fault .edge-fault .ensures) ∙ c .if1 .left)
-          ∙ at-loop .loop .inv .1,
-    )
+    let at-at = at-edge-fault .before in
+    let at-loop-test = at-at .before in
+    let t = at-loop-test .before .loop .inv in
+    let h = at-loop-test .loop-test .taken in
+    (edge-next (t .0) h, scan-on _ (edge-here (t .0) h (at-at .at .ensures)) (sym (at-edge-fault .edge-fault .ensures) ∙ c .if1 .left) ∙ t .1)
 
 returns-2 : tie.Need-returns-2 Inv-loop μ-loop
-returns-2 c = sym (scan-end _ _ _ (c .loop-test .left)) ∙ c .before .loop .inv .1
+returns-2 c =
+    let t = c .before .loop .inv in
+    sym (scan-end _ (edge-end (t .0) (c .loop-test .left))) ∙ t .1
 
 pub first-fault-spec : {M : Type 1} → statement M
 first-fault-spec =
@@ -72,13 +63,9 @@ first-fault-spec =
     (tie.spec
     Inv-loop
     μ-loop
+    count-requires
     loop-holds
-    add-loop
-    mul-edge-fault
-    shared-slice-read-edge-fault
-    add-edge-fault
-    mul-edge-fault-2
-    shared-slice-read-edge-fault-2
+    at-requires
     edge-fault-requires
     returns
     add-i

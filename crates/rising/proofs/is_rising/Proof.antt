@@ -1,38 +1,27 @@
 use mathlib.Core.Path.{sym}
 use mathlib.Core.Bool.{true≢false}
 use Prim.Native.Nat.{_-_}
-use lib.ListN.{length}
 use borrow.Author.Needs.{needs}
+use Rattle.game.specs.Edge.{edges as edgesOf}
+use Rattle.edge.proofs.Reading.{edge-inside}
 use Rattle.rising.proofs.Rising.{Reading, reading-start, reading-edge, reading-end}
 use Rattle.rising.proofs.is_rising.Statement.{statement}
 use Rattle.rising.proofs.is_rising.Tie as tie
 
 abbrev Inv-loop : tie.InvT-loop
-Inv-loop n edges last₀ i₀ last i = Reading n edges last i
+Inv-loop n edges m last₀ i₀ last i = Reading n (edgesOf edges) m last i
 
 abbrev μ-loop : tie.MeasureT-loop
-μ-loop n edges last₀ i₀ last i = length edges - i
+μ-loop n edges m last₀ i₀ last i = m - i
+
+count-requires : tie.Need-count-requires Inv-loop μ-loop
+count-requires c κs = search needs
 
 loop-holds : tie.Need-loop-holds Inv-loop μ-loop
-loop-holds c = reading-start _ _
+loop-holds c = reading-start _ (c .count .ensures)
 
-add-loop : tie.Need-add-loop Inv-loop μ-loop
-add-loop c = search needs
-
-mul-a : tie.Need-mul-a Inv-loop μ-loop
-mul-a c = search needs
-
-shared-slice-read-a : tie.Need-shared-slice-read-a Inv-loop μ-loop
-shared-slice-read-a c = search needs
-
-add-b : tie.Need-add-b Inv-loop μ-loop
-add-b c = search needs
-
-mul-b : tie.Need-mul-b Inv-loop μ-loop
-mul-b c = search needs
-
-shared-slice-read-b : tie.Need-shared-slice-read-b Inv-loop μ-loop
-shared-slice-read-b c = search needs
+at-requires : tie.Need-at-requires Inv-loop μ-loop
+at-requires c κs = edge-inside (c .before .loop .inv .place) (c .loop-test .taken)
 
 end-of-requires : tie.Need-end-of-requires Inv-loop μ-loop
 end-of-requires c κs = search needs
@@ -51,11 +40,12 @@ loop-less c = search needs
 
 loop-again : tie.Need-loop-again Inv-loop μ-loop
 loop-again c =
-    let at-wide = c .before in
+    let at-wide = c .before .before in
     let at-end-of = at-wide .before in
-    let at-loop-test = at-end-of .before .before .before in
+    let at-at = at-end-of .before in
+    let at-loop-test = at-at .before in
     let at-loop = at-loop-test .before in
-    reading-edge (at-loop .loop .inv) (at-loop-test .loop-test .taken) (at-end-of .end-of .ensures) (rw (at-wide .wide .ensures) at (c .if1 .left))
+    reading-edge (at-loop .loop .inv) (at-loop-test .loop-test .taken) (at-at .at .ensures) (at-end-of .end-of .ensures) (rw (at-wide .wide .ensures) at (c .if1 .left))
 
 returns-2 : tie.Need-returns-2 Inv-loop μ-loop
 returns-2 c = λ t. reading-end (c .before .loop .inv) (c .loop-test .left)
@@ -66,13 +56,9 @@ is-rising-spec =
     (tie.spec
     Inv-loop
     μ-loop
+    count-requires
     loop-holds
-    add-loop
-    mul-a
-    shared-slice-read-a
-    add-b
-    mul-b
-    shared-slice-read-b
+    at-requires
     end-of-requires
     wide-requires
     returns

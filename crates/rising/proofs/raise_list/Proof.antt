@@ -1,12 +1,12 @@
 use mathlib.Core.Path.{_≡_, refl, sym, ap, subst, subst₂, _∙_}
 use mathlib.Core.Bool.{false}
 use mathlib.Core.List.{List}
-use Prim.Native.Nat.{ℕ, _-_, _≤_, _<_}
+use Prim.Native.Nat.{ℕ, _-_, _<_}
 use native.Mathlib.Omega.{arith}
 use lib.ListN.{length, drop, length-replicate}
 use Rattle.game.specs.Edge.{edges as edgesOf}
 use Rattle.game.specs.Game.{absent}
-use Rattle.game.proofs.Edges.{edges-drop, edges-end}
+use Rattle.edge.proofs.Reading.{AtEdge, edge-start, edge-next, edge-inside, edge-here, edge-end}
 use Rattle.refusal.proofs.Fault.{faultless-proper}
 use Rattle.sorting.proofs.Tallied.{Counting, counting-room, counting-turn, counting-end}
 use Rattle.bucket.specs.Ends.{endOf, tallied}
@@ -21,27 +21,30 @@ use borrow.Author.Needs.{needs}
 use Rattle.rising.proofs.raise_list.Statement.{statement}
 use Rattle.rising.proofs.raise_list.Tie as tie
 
--- the edges before place i are taken in and weighed
-record Turn (xs weights₀ before jumps weights p jump : List ℕ) (moved i : ℕ) : Type 0 where
-  inside : i ≤ length xs
+-- the edges before number i of m are taken in and weighed
+record Turn (xs weights₀ before jumps weights p jump : List ℕ) (m moved i : ℕ) : Type 0 where
+  place : AtEdge (edgesOf xs) m i
   same : length p ≡ length before
   upward : Upward (length before) jump
   untouched : Untouched before jumps p jump
   moves : Moves before jumps absent p jump moved
-  counting : Counting (endOf false) (length before) (edgesOf (drop i xs)) weights (tallied false (edgesOf xs) weights₀)
-  taking : Taking (length before) (edgesOf xs) (edgesOf (drop i xs)) (newParents p jump) jump
+  counting : Counting (endOf false) (length before) (drop i (edgesOf xs)) weights (tallied false (edgesOf xs) weights₀)
+  taking : Taking (length before) (edgesOf xs) (drop i (edgesOf xs)) (newParents p jump) jump
 
 abbrev Inv-loop : tie.InvT-loop
-Inv-loop edges weights₀ parents₀ jump₀ moved₀ i₀ weights parents jump moved i = Turn edges weights₀ parents₀ jump₀ weights parents jump moved i
+Inv-loop edges weights₀ parents₀ jump₀ m moved₀ i₀ weights parents jump moved i = Turn edges weights₀ parents₀ jump₀ weights parents jump m moved i
 
 abbrev μ-loop : tie.MeasureT-loop
-μ-loop edges weights₀ parents₀ jump₀ moved₀ i₀ weights parents jump moved i = length edges - i
+μ-loop edges weights₀ parents₀ jump₀ m moved₀ i₀ weights parents jump moved i = m - i
+
+count-requires : tie.Need-count-requires Inv-loop μ-loop
+count-requires c κs = search needs
 
 loop-holds : tie.Need-loop-holds Inv-loop μ-loop
 loop-holds c =
-    let (r, blank) = c .before .before .before .before .pre in
+    let (r, blank) = c .before .before .before .before .before .pre in
     record {
-      inside = omega arith;
+      place = edge-start (c .count .ensures);
       same = refl;
       upward = subst (Upward _) (sym (blank)) (upward-blank _);
       untouched = untouched-none _ _;
@@ -50,23 +53,8 @@ loop-holds c =
       taking = subst₂ (Taking _ _ _) (sym (new-blank _ refl (blank))) (sym (blank)) (taking-start (omega (arith, r .few)) (r .rises));
     }
 
-add-loop : tie.Need-add-loop Inv-loop μ-loop
-add-loop c = search needs
-
-mul-a : tie.Need-mul-a Inv-loop μ-loop
-mul-a c = search needs
-
-shared-slice-read-a : tie.Need-shared-slice-read-a Inv-loop μ-loop
-shared-slice-read-a c = search needs
-
-add-b : tie.Need-add-b Inv-loop μ-loop
-add-b c = search needs
-
-mul-b : tie.Need-mul-b Inv-loop μ-loop
-mul-b c = search needs
-
-shared-slice-read-b : tie.Need-shared-slice-read-b Inv-loop μ-loop
-shared-slice-read-b c = search needs
+at-requires : tie.Need-at-requires Inv-loop μ-loop
+at-requires c κs = edge-inside (c .before .loop .inv .place) (c .loop-test .taken)
 
 end-of-requires : tie.Need-end-of-requires Inv-loop μ-loop
 end-of-requires c κs = search needs
@@ -81,13 +69,14 @@ mul-weights : tie.Need-mul-weights Inv-loop μ-loop
 mul-weights c = search needs
 
 -- the lower end of the edge that the loop has come to has a weight
-weighed-here : (c : tie.After-wide Inv-loop μ-loop) → c .wide .result < length (c .before .before .before .before .before .before .loop .weights)
+weighed-here : (c : tie.After-wide Inv-loop μ-loop) → c .wide .result < length (c .before .before .before .before .before .loop .weights)
 weighed-here c =
     let at-end-of = c .before .before in
-    let at-loop-test = at-end-of .before .before .before in
+    let at-at = at-end-of .before in
+    let at-loop-test = at-at .before in
     let at-loop = at-loop-test .before in
     let t = at-loop .loop .inv in
-    let e = taking-ends (t .taking) (edges-drop _ _ (at-loop-test .loop-test .taken)) in
+    let e = taking-ends (t .taking) (edge-here (at-loop-test .before .loop .inv .place) (at-loop-test .loop-test .taken) (at-at .at .ensures)) in
     omega (arith, c .wide .ensures, at-end-of .end-of .ensures, e .0, e .1, t .counting .long)
 
 slice-read-weights : tie.Need-slice-read-weights Inv-loop μ-loop
@@ -95,9 +84,10 @@ slice-read-weights c = weighed-here (c .before)
 
 add-weights : tie.Need-add-weights Inv-loop μ-loop
 add-weights c =
-    let at-loop-test = c .before .before .before .before .before .before in
+    let at-at = c .before .before .before .before in
+    let at-loop-test = at-at .before in
     let at-loop = at-loop-test .before in
-    record { fits = counting-room (endOf false) (at-loop .loop .inv .counting) _ (edges-drop _ _ (at-loop-test .loop-test .taken)) }
+    record { fits = counting-room (endOf false) (at-loop .loop .inv .counting) _ (edge-here (at-loop-test .before .loop .inv .place) (at-loop-test .loop-test .taken) (at-at .at .ensures)) }
 
 slice-write-weights : tie.Need-slice-write-weights Inv-loop μ-loop
 slice-write-weights c = weighed-here (c .before)
@@ -105,11 +95,12 @@ slice-write-weights c = weighed-here (c .before)
 climb-requires : tie.Need-climb-requires Inv-loop μ-loop
 climb-requires c κs =
     let at-end-of2 = c .before .before .before .before in
-    let at-loop-test = at-end-of2 .before .before .before .before in
+    let at-at = at-end-of2 .before .before in
+    let at-loop-test = at-at .before in
     let at-loop = at-loop-test .before in
-    let at-pre = at-loop .before .before .before .before .before in
+    let at-pre = at-loop .before .before .before .before .before .before in
     let t = at-loop .loop .inv in
-    let e = taking-ends (t .taking) (edges-drop _ _ (at-loop-test .loop-test .taken)) in
+    let e = taking-ends (t .taking) (edge-here (at-loop-test .before .loop .inv .place) (at-loop-test .loop-test .taken) (at-at .at .ensures)) in
     (omega (arith, at-end-of2 .end-of2 .ensures, e .1, t .same), omega (arith, t .same, at-pre .pre .0 .few), subst (λ (m : ℕ). Upward m (at-loop .loop .jump)) (sym (t .same)) (t .upward))
 
 add-i : tie.Need-add-i Inv-loop μ-loop
@@ -124,14 +115,15 @@ loop-again c =
     let at-wide = at-climb .before .before .before .before in
     let at-end-of2 = at-wide .before in
     let at-end-of = at-end-of2 .before in
-    let at-loop-test = at-end-of .before .before .before in
+    let at-at = at-end-of .before in
+    let at-loop-test = at-at .before in
     let at-loop = at-loop-test .before in
     let t = at-loop .loop .inv in
     let h = at-loop-test .loop-test .taken in
     let (k, m) = at-climb .climb .ensures in
-    let head = edges-drop _ _ h in
+    let head = edge-here (t .place) h (at-at .at .ensures) in
     record {
-      inside = omega (arith, h);
+      place = edge-next (t .place) h;
       same = at-climb .climb .kept .1 .1 .0 ∙ t .same;
       upward = subst (λ (n : ℕ). Upward n (at-climb .climb .last .1 .1 .1 .0)) (t .same) (k .upward);
       untouched = untouched-on (t .untouched) (k .untouched);
@@ -141,19 +133,19 @@ loop-again c =
     }
 
 same-length : tie.Need-same-length Inv-loop μ-loop
-same-length c = c .before .loop .inv .counting .long ∙ sym (c .before .before .before .before .before .before .pre .0 .long)
+same-length c = c .before .loop .inv .counting .long ∙ sym (c .before .before .before .before .before .before .before .pre .0 .long)
 
 same-length-2 : tie.Need-same-length-2 Inv-loop μ-loop
 same-length-2 c = search needs
 
 same-length-3 : tie.Need-same-length-3 Inv-loop μ-loop
-same-length-3 c = c .before .loop .inv .upward .long ∙ sym (ap length (c .before .before .before .before .before .before .pre .1) ∙ length-replicate _ absent)
+same-length-3 c = c .before .loop .inv .upward .long ∙ sym (ap length (c .before .before .before .before .before .before .before .pre .1) ∙ length-replicate _ absent)
 
 returns : tie.Need-returns Inv-loop μ-loop
 returns c =
     let t = c .before .loop .inv in
-    let none = edges-end _ _ (c .loop-test .left) in (
-      taking-end (t .taking) none (faultless-proper _ _ (rises-faultless (c .before .before .before .before .before .before .pre .0 .rises))),
+    let none = edge-end (t .place) (c .loop-test .left) in (
+      taking-end (t .taking) none (faultless-proper _ _ (rises-faultless (c .before .before .before .before .before .before .before .pre .0 .rises))),
       counting-end (endOf false) (t .counting) none,
       t .untouched,
       t .moves,
@@ -165,13 +157,9 @@ raise-list-spec =
     (tie.spec
     Inv-loop
     μ-loop
+    count-requires
     loop-holds
-    add-loop
-    mul-a
-    shared-slice-read-a
-    add-b
-    mul-b
-    shared-slice-read-b
+    at-requires
     end-of-requires
     end-of-requires-2
     wide-requires

@@ -13,13 +13,22 @@ returns : tie.Need-returns
 unfolding listRefusal
 returns c = c .before .list-fault .ensures ∙ sym (first-stop _ _ (λ z. c .if1 .taken (c .before .list-fault .ensures ∙ z)))
 
+count-requires : tie.Need-count-requires
+count-requires c κs = search needs
+
 returns-2 : tie.Need-returns-2
 unfolding listRefusal
-returns-2 c = sym (first-pass _ _ (sym (c .before .before .list-fault .ensures) ∙ c .before .if1 .left) ∙ stop _ _ (many-edges _ (c .if2 .taken)))
+returns-2 c =
+    let at-count = c .before in
+    let at-if1 = at-count .before in
+    sym (first-pass _ _ (sym (at-if1 .before .list-fault .ensures) ∙ at-if1 .if1 .left) ∙ stop _ _ (many-edges _ (at-count .count .ensures) (c .if2 .taken)))
 
 returns-3 : tie.Need-returns-3
 unfolding listRefusal
-returns-3 c = sym (first-pass _ _ (sym (c .before .before .list-fault .ensures) ∙ c .before .if1 .left) ∙ pass _ _ (few-edges _ (c .if2 .left)) ∙ first-end)
+returns-3 c =
+    let at-count = c .before in
+    let at-if1 = at-count .before in
+    sym (first-pass _ _ (sym (at-if1 .before .list-fault .ensures) ∙ at-if1 .if1 .left) ∙ pass _ _ (few-edges _ (at-count .count .ensures) (c .if2 .left)) ∙ first-end)
 
 pub list-refusal-spec : {M : Type 1} → statement M
-list-refusal-spec = tie.close (tie.spec list-fault-requires returns returns-2 returns-3)
+list-refusal-spec = tie.close (tie.spec list-fault-requires returns count-requires returns-2 returns-3)

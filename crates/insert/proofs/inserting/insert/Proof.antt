@@ -2,7 +2,7 @@ use native.Mathlib.Omega.{arith}
 use mathlib.Core.Path.{refl, _∙_}
 use Rattle.growth.proofs.Regrown.{filed-growable}
 use Rattle.insert.proofs.Puts.{put-all}
-use Rattle.insert.proofs.Rest.{rest-part, rest-faultless, rest-room, rest-grown, rest-moved}
+use Rattle.insert.proofs.Rest.{rest-faultless, rest-room, rest-grown, rest-moved}
 use Rattle.growth.proofs.Rooms.{same-room}
 use borrow.Author.Needs.{needs}
 use Rattle.insert.proofs.inserting.insert.Statement.{statement}
@@ -14,8 +14,8 @@ budget-requires c κs = search needs
 put-some-requires : tie.Need-put-some-requires
 put-some-requires c κs = search needs
 
-add-if1 : tie.Need-add-if1
-add-if1 c = search needs
+count-requires : tie.Need-count-requires
+count-requires c κs = search needs
 
 clear-requires : tie.Need-clear-requires
 clear-requires c κs = search needs
@@ -36,40 +36,33 @@ returns : tie.Need-returns
 returns c =
     let at-clear = c .before .before .before .before .before .before in
     let at-if1 = at-clear .before .before .before .before in
-    let at-put-some = at-if1 .before .before .before in
-    let at-pre = at-put-some .before .before .before .before .before .before .before .before in
+    let at-count = at-if1 .before in
+    let at-put-some = at-count .before .before .before in
+    let s : tie.Start = at-put-some .before .before .before .before .before .before .before .before in
     let p = at-put-some .put-some .ensures in (
       record {
-        grown = put-all (p .0) (omega (arith, at-pre .pre .table .few)) (at-if1 .if1 .taken);
+        grown = put-all (p .0) (omega (arith, s .pre .table .few)) (omega (arith, at-count .count .ensures, at-if1 .if1 .taken));
         clear = at-clear .clear .ensures;
       },
       p .1 .differ,
     )
 
-mul-file-edges : tie.Need-mul-file-edges
-mul-file-edges c = search needs
-
-sub-file-edges : tie.Need-sub-file-edges
-sub-file-edges c = search needs
-
-part-file-edges-start : tie.Need-part-file-edges-start
-part-file-edges-start c = search needs
-
-part-file-edges-end : tie.Need-part-file-edges-end
-part-file-edges-end c = search needs
+from-requires : tie.Need-from-requires
+from-requires c κs = search needs
 
 file-edges-requires : tie.Need-file-edges-requires
 file-edges-requires c κs =
-    let s : tie.Start = c .before .before .before .before .before .before .before .before .before .before .before .before .before .before .before in
-    let p : tie.After-put-some = c .before .before .before .before .before .before .before in
-    let u = p .put-some .ensures .0 in
-    let y = rest-part (s .args .edges .now) (p .put-some .result .count) in
+    let at-from = c .before .before in
+    let at-put-some = at-from .before .before .before .before .before .before in
+    let s : tie.Start = at-put-some .before .before .before .before .before .before .before .before in
+    let u = at-put-some .put-some .ensures .0 in
+    let y = at-from .from .ensures in
     (omega (arith, u .same, s .pre .long), (omega (arith, u .same, s .pre .table .few), (u .sound, (rest-faultless (s .pre) u y, (rest-room (s .pre) u y, omega (arith, s .pre .small))))))
 
 regrow-requires : tie.Need-regrow-requires
 regrow-requires c κs =
     let at-file-edges = c .before .before .before .before .before .before .before .before in
-    let at-put-some = at-file-edges .before .before .before .before .before .before .before .before in
+    let at-put-some = at-file-edges .before .before .before .before .before .before .before .before .before in
     let s : tie.Start = at-put-some .before .before .before .before .before .before .before .before in
     let u = at-put-some .put-some .ensures .0 in
     filed-growable (at-file-edges .file-edges .ensures) (omega (arith, u .same, s .pre .table .few)) refl (omega (arith, u .same, s .pre .long-jump))
@@ -92,17 +85,19 @@ same-length-8 c = search needs
 returns-2 : tie.Need-returns-2
 returns-2 c =
     let at-regrow = c .before .before .before .before .before .before .before .before .before in
-    let s : tie.Start = at-regrow .before .before .before .before .before .before .before .before .before .before .before .before .before .before .before .before .before .before .before .before .before .before .before .before .before in
-    let p : tie.After-put-some = at-regrow .before .before .before .before .before .before .before .before .before .before .before .before .before .before .before .before .before in
-    let f : tie.After-file-edges = at-regrow .before .before .before .before .before .before .before .before .before in
-    let g = at-regrow .regrow .ensures in
-    let u = p .put-some .ensures .0 in
-    let y = rest-part (s .args .edges .now) (p .put-some .result .count) in (
+    let at-file-edges = at-regrow .before .before .before .before .before .before .before .before .before in
+    let at-from = at-file-edges .before .before .before in
+    let at-put-some = at-from .before .before .before .before .before .before in
+    let s : tie.Start = at-put-some .before .before .before .before .before .before .before .before in
+    let u = at-put-some .put-some .ensures .0 in
+    let y = at-from .from .ensures in
+    let f = at-file-edges .file-edges in
+    let g = at-regrow .regrow .ensures in (
       record {
-        grown = rest-grown (s .pre) u y (f .file-edges .ensures) (g .0);
-        clear = g .0 .clear ∙ same-room _ _ _ _ _ _ (f .file-edges .kept .1 .1 .0) refl (f .file-edges .kept .1 .1 .1 .0);
+        grown = rest-grown (s .pre) u y (f .ensures) (g .0);
+        clear = g .0 .clear ∙ same-room _ _ _ _ _ _ (f .kept .1 .1 .0) refl (f .kept .1 .1 .1 .0);
       },
-      rest-moved (s .pre) u y (f .file-edges .ensures) (g .0) (p .put-some .ensures .1) (g .1) (c .smaller .ensures),
+      rest-moved (s .pre) u y (f .ensures) (g .0) (at-put-some .put-some .ensures .1) (g .1) (c .smaller .ensures),
     )
 
 pub insert-spec : {M : Type 1} → statement M
@@ -111,17 +106,14 @@ insert-spec =
     (tie.spec
     budget-requires
     put-some-requires
-    add-if1
+    count-requires
     clear-requires
     same-length
     same-length-2
     same-length-3
     same-length-4
     returns
-    mul-file-edges
-    sub-file-edges
-    part-file-edges-start
-    part-file-edges-end
+    from-requires
     file-edges-requires
     regrow-requires
     smaller-requires
