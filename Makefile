@@ -9,9 +9,9 @@ PREFIX = /usr/local
 LIBDIR = $(PREFIX)/lib
 INCLUDEDIR = $(PREFIX)/include
 # A change of the header raises the minor number. The shared object is named by both numbers, so that a host built
-# against another header cannot load it. bindings/ names the version too; tests/hosts/test_interface.py holds them
-# together.
-VERSION = 0.6.0
+# against another header cannot load it. The header and bindings/ name the version too; tests/hosts/test_interface.py
+# holds them together.
+VERSION = 0.7.0
 SONAME = libniqastul.so.$(basename $(VERSION))
 
 SOURCES := crates.txt $(shell find crates -name '*.rt' -o -name '*.antt')

@@ -40,6 +40,12 @@
 extern "C" {
 #endif
 
+/* The version that this header belongs to, as text and as numbers. */
+#define NIQASTUL_VERSION "0.7.0"
+#define NIQASTUL_VERSION_MAJOR 0
+#define NIQASTUL_VERSION_MINOR 7
+#define NIQASTUL_VERSION_PATCH 0
+
 #define NIQASTUL_ABSENT UINT32_C(0xFFFFFFFF) /* for no rank: no parent, none that moved, none in a separator */
 #define NIQASTUL_MAX_VERTICES 1000000
 #define NIQASTUL_MAX_EDGES 16000000 /* of a list that is added, given as a net's own or indexed */
@@ -66,6 +72,29 @@ enum niqastul_answer {
     NIQASTUL_OTHER_EDGES = 23,    /* edges that have other parents or weights than the net */
     NIQASTUL_RELATED = 31         /* the two ranks are equal, or one stands above the other */
 };
+
+/* What an answer says, in a few words for a message. */
+static inline const char *niqastul_text(uint32_t answer)
+{
+    switch (answer) {
+    case NIQASTUL_ACCEPTED: return "accepted";
+    case NIQASTUL_BAD_COUNT: return "no vertex, or more than 1,000,000";
+    case NIQASTUL_WRONG_LENGTH: return "a table of the wrong length, or an edge list of odd length";
+    case NIQASTUL_BAD_FILE: return "not whole records, or not as many as the net has vertices";
+    case NIQASTUL_BAD_ORDER: return "an entry of the order is out of range or repeats";
+    case NIQASTUL_BAD_LIMIT: return "a limit or a number of blocks out of range";
+    case NIQASTUL_UNLIKE_COUNTS: return "two nets with different numbers of vertices";
+    case NIQASTUL_DAMAGED: return "a net or an index whose tables are damaged";
+    case NIQASTUL_BAD_VERTEX: return "an edge or a query names a vertex out of range";
+    case NIQASTUL_LOOP: return "both ends of an edge are one vertex";
+    case NIQASTUL_BAD_PARENT: return "a record's parent is neither absent nor above its vertex";
+    case NIQASTUL_FULL: return "more than 16,000,000 edges in all";
+    case NIQASTUL_TOO_HEAVY: return "a weight above the limit";
+    case NIQASTUL_OTHER_EDGES: return "the edges are not those of the net";
+    case NIQASTUL_RELATED: return "the two ranks are equal, or one stands above the other";
+    default: return "unknown answer";
+    }
+}
 
 /* RELABEL an edge list from vertex numbers to ranks, by an order: the vertex order[r] has rank r.
  *   reads   order   [n]        each of 0 to n-1 once

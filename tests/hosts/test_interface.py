@@ -1,15 +1,18 @@
-"""The header compiles as C and as C++; limits are document 01's; there is one version; and what pointers and lengths
-may be."""
+"""The header compiles as C and as C++; limits are document 01's; answers have one text and the hosts one version; and
+what pointers and lengths may be."""
 
+import ast
 import ctypes
 import mmap
 import re
 import subprocess
+import sys
 import tempfile
 
 from oracle import calls
 from oracle.forest import ABSENT
 from support import ROOT, header
+from support.compiled import LANGUAGES, printed
 from support.harness import test
 from support.library import PATH, library
 
@@ -22,18 +25,14 @@ def constants(t):
     source = """#include <stdio.h>
     #include "niqastul.h"
     int main(void) {
-        printf("%u %u %u %u %u %u %zu %zu %zu", NIQASTUL_ABSENT, NIQASTUL_MAX_VERTICES, NIQASTUL_MAX_EDGES,
-               NIQASTUL_MAX_TOTAL, NIQASTUL_MAX_LIMIT, NIQASTUL_MAX_BLOCKS, niqastul_add_lower(5, 7),
-               niqastul_join_lower(5, 7), niqastul_bytes(5));
+        printf("%u %u %u %u %u %u", NIQASTUL_ABSENT, NIQASTUL_MAX_VERTICES, NIQASTUL_MAX_EDGES, NIQASTUL_MAX_TOTAL,
+               NIQASTUL_MAX_LIMIT, NIQASTUL_MAX_BLOCKS);
+        printf(" %u %u %u", (unsigned)niqastul_add_lower(5, 7), (unsigned)niqastul_join_lower(5, 7),
+               (unsigned)niqastul_bytes(5));
     }"""
     numbers = (ABSENT, calls.MAX_MARKS, calls.MAX_TIES, calls.MAX_TOTAL, calls.MAX_LIMIT, calls.MAX_BLOCKS, 8, 12, 40)
-    for compiler in ("gcc -std=c99 -x c", "gcc -std=c11 -x c", "g++ -std=c++98 -x c++", "g++ -std=c++17 -x c++"):
-        with tempfile.TemporaryDirectory() as folder:
-            program = folder + "/constants"
-            strict = ["-Wall", "-Wextra", "-Werror", "-I", ROOT / "include"]
-            subprocess.run([*compiler.split(), *strict, "-", "-o", program], input=source, text=True, check=True)
-            printed = subprocess.run([program], capture_output=True, text=True, check=True).stdout
-        t.same(printed.split(), [str(x) for x in numbers], compiler)
+    for language in LANGUAGES:
+        t.same(printed(language, source).split(), [str(x) for x in numbers], language)
     answers = [int(number) for number in re.findall(r"^    NIQASTUL_\w+ = (\d+)", header.TEXT, flags=re.M)]
     t.same(answers, [0] + calls.ORDER, "the header lists the answers in the order of decision")
     t.same(len(set(answers)), len(answers), "each once")
@@ -42,10 +41,40 @@ def constants(t):
 @test(at_least=1)
 def rust_constants(t):
     """The Rust crate has the header's constants."""
-    defined = re.findall(r"^#define NIQASTUL_(\w+) (?:UINT32_C\()?(\w+)", header.TEXT, flags=re.M)
+    defined = re.findall(r"^#define NIQASTUL_(?!VERSION)(\w+) (?:UINT32_C\()?(\w+)", header.TEXT, flags=re.M)
     source = (RUST / "src" / "lib.rs").read_text()
     t.same(re.findall(r"^pub const (\w+): \w+ = (\w+);", source.replace("_", ""), flags=re.M),
            [(name.replace("_", ""), number) for name, number in defined])
+
+
+def python_texts():
+    """The text of each refusal by its number, as the Python package has it."""
+    words = [sys.executable, "-c", "from niqastul.calls import REASONS; print(REASONS)"]
+    return ast.literal_eval(subprocess.run(words, cwd=PYTHON, check=True, capture_output=True, text=True).stdout)
+
+
+def rust_texts():
+    source = (RUST / "src" / "lib.rs").read_text()
+    numbers = re.findall(r"^    (\w+) = (\d+),$", source, flags=re.M)
+    texts = dict(re.findall(r'^ +(\w+) => "(.+)",$', source, flags=re.M))
+    return {int(number): texts[name] for name, number in numbers}
+
+
+@test(at_least=22)
+def texts(t):
+    """Each answer has one text in C, in Python and in Rust, and another one than any other answer."""
+    source = """#include <stdio.h>
+    #include "niqastul.h"
+    int main(void) { for (uint32_t number = 0; number < 100; number++) puts(niqastul_text(number)); return 0; }"""
+    known = {0: "accepted"} | python_texts()
+    t.same(sorted(known), sorted([0] + calls.ORDER))
+    t.same(len(set(known.values())), len(known))
+    t.same(rust_texts(), python_texts())
+    for language in LANGUAGES:
+        shown = printed(language, source).splitlines()
+        t.same(shown, [known.get(number, "unknown answer") for number in range(100)], language)
+    for number, text in known.items():
+        t.true(re.fullmatch(r"[ -~]{5,60}", text), number, text)
 
 
 NONE = None, ctypes.c_size_t(0)
@@ -104,13 +133,16 @@ def dynamic_section(file):
     return subprocess.run(["readelf", "-d", file], check=True, capture_output=True, text=True).stdout
 
 
-@test(at_least=6)
+@test(at_least=7)
 def versions(t):
     """One version throughout; the shared object is named by it, so that a host built against another header cannot load
     it."""
     version = re.search(r"^VERSION = (\d+\.\d+)\.\d+$", (ROOT / "Makefile").read_text(), re.M)
     t.true(version, "the Makefile names the version")
     whole, name = version[0].split()[-1], "libniqastul.so." + version[1]
+    major, minor, patch = whole.split(".")
+    numbers = [("VERSION", f'"{whole}"'), ("VERSION_MAJOR", major), ("VERSION_MINOR", minor), ("VERSION_PATCH", patch)]
+    t.same(re.findall(r"^#define NIQASTUL_(VERSION\w*) (.+)$", header.TEXT, re.M), numbers)
     for file in ("Cargo.toml", "Cargo.lock"):
         t.true(f'version = "{whole}"' in (RUST / file).read_text(), whole, file)
     python = "".join(path.read_text() for path in (PYTHON / "niqastul").glob("*.py"))

@@ -10,7 +10,7 @@ from .loading import load
 from .tables import BYTES_READ, BYTES_WRITTEN, WORDS_READ, WORDS_WRITTEN, address, copied, lend
 
 # The name carries the version of the header: a library of another version takes other arguments than those below.
-LIBRARY = "libniqastul.so.0.6"
+LIBRARY = "libniqastul.so.0.7"
 
 # What each call is lent, in the order of include/niqastul.h: `name` is a table that is read, `name!` one that is
 # written, `name:` and `name:!` are such tables of bytes, and `name#` is a number or a cell.
@@ -32,6 +32,7 @@ CALLS = {
 
 KINDS = {"": WORDS_READ, "!": WORDS_WRITTEN, ":": BYTES_READ, ":!": BYTES_WRITTEN, "#": None}
 
+# the texts of niqastul_text in include/niqastul.h
 REASONS = {
     1: "no vertex, or more than 1,000,000",
     2: "a table of the wrong length, or an edge list of odd length",

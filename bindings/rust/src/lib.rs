@@ -92,11 +92,32 @@ impl Refusal {
     pub fn number(self) -> u32 {
         self as u32
     }
+
+    /// What it says, in a few words for a message: the text of `niqastul_text` in include/niqastul.h.
+    pub fn text(self) -> &'static str {
+        use Refusal::*;
+        match self {
+            BadCount => "no vertex, or more than 1,000,000",
+            WrongLength => "a table of the wrong length, or an edge list of odd length",
+            BadFile => "not whole records, or not as many as the net has vertices",
+            BadOrder => "an entry of the order is out of range or repeats",
+            BadLimit => "a limit or a number of blocks out of range",
+            UnlikeCounts => "two nets with different numbers of vertices",
+            Damaged => "a net or an index whose tables are damaged",
+            BadVertex => "an edge or a query names a vertex out of range",
+            Loop => "both ends of an edge are one vertex",
+            BadParent => "a record's parent is neither absent nor above its vertex",
+            Full => "more than 16,000,000 edges in all",
+            TooHeavy => "a weight above the limit",
+            OtherEdges => "the edges are not those of the net",
+            Related => "the two ranks are equal, or one stands above the other",
+        }
+    }
 }
 
 impl std::fmt::Display for Refusal {
     fn fmt(&self, out: &mut std::fmt::Formatter<'_>) -> std::fmt::Result {
-        write!(out, "refused {}: {:?}", self.number(), self)
+        write!(out, "refused {}: {}", self.number(), self.text())
     }
 }
 

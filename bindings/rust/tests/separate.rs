@@ -40,7 +40,7 @@ fn refusals() {
     assert_eq!(net.separate(0, 0, &[0, 7, 1, 1]), Err(Refusal::BadVertex));
     assert_eq!(Net::default().separate(0, 1, &[0]), Err(Refusal::BadCount));
     assert_eq!(Refusal::Related.number(), 31);
-    assert_eq!(Refusal::Related.to_string(), "refused 31: Related");
+    assert_eq!(Refusal::Related.to_string(), "refused 31: the two ranks are equal, or one stands above the other");
 }
 
 #[test]
