@@ -1,5 +1,7 @@
-/* Niqastul: elimination forests of graphs, grown, joined and divided, and indexes of neighbours. Every call below is proved to do
- * what is written here (crates/exports); this header is what a C or C++ program sees of it.
+/* Niqastul: elimination forests of graphs, grown, joined and divided, and indexes of neighbours. Every call below is
+ * proved to do what is written here (crates/exports); this header is what a C or C++ program sees of it. The calls come
+ * twice: first each as the library has it, with every table a parameter, then over structs of tables, at the end of the
+ * header. The second form is the one for most programs; it only passes on tables to the first.
  *
  * TABLES. A table is passed as a pointer and its number of entries. A graph has n vertices, 1 to NIQASTUL_MAX_VERTICES, named
  * by their ranks 0 to n-1 in an elimination order. An edge list holds two vertices to an edge, edges may repeat, and its
@@ -294,6 +296,305 @@ uint32_t niqastul_query(const uint32_t *starts, size_t starts_length,
                         uint32_t rank,
                         uint64_t *first,
                         uint64_t *count);
+
+/* THE CALLS OVER STRUCTS. From here on, tables that belong together are one struct, and each call above has a function
+ * that takes structs. A program that uses them does not list tables: if a later version has more of them, it is
+ * compiled anew and not edited. Nor can it exchange two tables: a struct of another kind does not compile.
+ *
+ * MAKING. niqastul_X_size says how many bytes the tables of a struct need together, and niqastul_X_in lays them into
+ * memory of that size, end to end in the order of the fields, so that the first one begins where the memory does. The
+ * memory is the caller's: any that is aligned for uint32_t, as that of malloc is, whatever it holds. It is not tested
+ * for a null pointer. The fields may also be set by hand, to tables that lie anywhere.
+ *
+ * CALLING. niqastul_X_CALL passes the tables on to niqastul_CALL, in the order of its parameters, and returns its
+ * answer. What is said of niqastul_CALL holds. Structs are passed by value: a call writes tables, never a field of
+ * them. Structs that do not fit each other are refused (2), such as a division of more vertices than the net has. */
+
+struct niqastul_order {
+    const uint32_t *list; /* the vertex of each rank */
+    size_t length;        /* n */
+};
+
+struct niqastul_edges {
+    const uint32_t *list; /* two vertices to an edge */
+    size_t length;        /* the number of entries, twice that of edges */
+};
+
+struct niqastul_net {
+    uint32_t *parents; /* [vertices] */
+    uint32_t *weights; /* [vertices] */
+    size_t vertices;   /* n */
+};
+
+/* Room for the work tables of a call. It may be longer than the call needs, and then its front is used. If it is
+ * shorter, the call is refused (2). */
+struct niqastul_work {
+    uint32_t *room;
+    size_t length; /* the number of entries */
+};
+
+struct niqastul_division {
+    uint32_t *carried;     /* [vertices] */
+    uint32_t *top;         /* [vertices] */
+    uint32_t *block;       /* [vertices] */
+    uint32_t *block_loads; /* [blocks] */
+    size_t vertices;
+    uint32_t blocks; /* the number of blocks to divide into */
+};
+
+struct niqastul_report_tables {
+    struct niqastul_division division;
+    uint32_t *edge_blocks;        /* [edges] */
+    uint32_t *reach;              /* [division.vertices] */
+    uint32_t *block_count;        /* [division.vertices] */
+    uint32_t *edges_taken;        /* [division.vertices] */
+    struct niqastul_net compared; /* the net of the edges */
+    size_t edges;                 /* the number of edges */
+};
+
+/* What a report answers in cells. */
+struct niqastul_totals {
+    uint64_t bound, volume;
+    uint32_t quotient, remainder;
+};
+
+struct niqastul_separate_tables {
+    uint32_t *separator;          /* [compared.vertices] */
+    struct niqastul_net compared; /* the net of the edges */
+};
+
+/* What a separation answers in cells. */
+struct niqastul_separator {
+    uint32_t count, lowest;
+};
+
+struct niqastul_index_tables {
+    uint32_t *starts;     /* [vertices + 1] */
+    uint32_t *neighbours; /* [length] */
+    size_t vertices;      /* n */
+    size_t length;        /* the number of entries of all runs */
+};
+
+/* What a query answers in cells: where a run begins, and how many neighbours it has. */
+struct niqastul_run {
+    uint64_t first, count;
+};
+
+/* A net of so many vertices. */
+static inline size_t niqastul_net_size(size_t vertices)
+{
+    return 2 * vertices * sizeof(uint32_t);
+}
+
+static inline struct niqastul_net niqastul_net_in(void *memory, size_t vertices)
+{
+    struct niqastul_net its;
+    its.parents = (uint32_t *)memory;
+    its.weights = its.parents + vertices;
+    its.vertices = vertices;
+    return its;
+}
+
+/* Room for every call on a net, if no list is longer than this one, and a net that is joined has as many vertices. */
+static inline size_t niqastul_work_size(struct niqastul_net net, struct niqastul_edges longest)
+{
+    size_t add = niqastul_add_lower(net.vertices, longest.length);
+    size_t join = niqastul_join_lower(net.vertices, net.vertices);
+    return (2 * net.vertices + (add < join ? join : add)) * sizeof(uint32_t);
+}
+
+static inline struct niqastul_work niqastul_work_in(void *memory, struct niqastul_net net,
+                                                    struct niqastul_edges longest)
+{
+    struct niqastul_work its;
+    its.room = (uint32_t *)memory;
+    its.length = niqastul_work_size(net, longest) / sizeof(uint32_t);
+    return its;
+}
+
+/* A division of a net into so many blocks. */
+static inline size_t niqastul_division_size(struct niqastul_net net, uint32_t blocks)
+{
+    return (3 * net.vertices + blocks) * sizeof(uint32_t);
+}
+
+static inline struct niqastul_division niqastul_division_in(void *memory, struct niqastul_net net, uint32_t blocks)
+{
+    struct niqastul_division its;
+    its.carried = (uint32_t *)memory;
+    its.top = its.carried + net.vertices;
+    its.block = its.top + net.vertices;
+    its.block_loads = its.block + net.vertices;
+    its.vertices = net.vertices;
+    its.blocks = blocks;
+    return its;
+}
+
+/* The tables of a report on a net with these edges, divided into so many blocks. */
+static inline size_t niqastul_report_size(struct niqastul_net net, uint32_t blocks, struct niqastul_edges edges)
+{
+    return niqastul_division_size(net, blocks) + (edges.length / 2 + 3 * net.vertices) * sizeof(uint32_t) +
+           niqastul_net_size(net.vertices);
+}
+
+static inline struct niqastul_report_tables niqastul_report_in(void *memory, struct niqastul_net net, uint32_t blocks,
+                                                               struct niqastul_edges edges)
+{
+    struct niqastul_report_tables its;
+    its.edges = edges.length / 2;
+    its.division = niqastul_division_in(memory, net, blocks);
+    its.edge_blocks = its.division.block_loads + blocks;
+    its.reach = its.edge_blocks + its.edges;
+    its.block_count = its.reach + net.vertices;
+    its.edges_taken = its.block_count + net.vertices;
+    its.compared = niqastul_net_in(its.edges_taken + net.vertices, net.vertices);
+    return its;
+}
+
+/* The tables of a separation in a net. */
+static inline size_t niqastul_separate_size(struct niqastul_net net)
+{
+    return net.vertices * sizeof(uint32_t) + niqastul_net_size(net.vertices);
+}
+
+static inline struct niqastul_separate_tables niqastul_separate_in(void *memory, struct niqastul_net net)
+{
+    struct niqastul_separate_tables its;
+    its.separator = (uint32_t *)memory;
+    its.compared = niqastul_net_in(its.separator + net.vertices, net.vertices);
+    return its;
+}
+
+/* The tables of an index of so many vertices and of two lists. */
+static inline size_t niqastul_index_size(size_t vertices, struct niqastul_edges old_edges, struct niqastul_edges added)
+{
+    return (vertices + 1 + old_edges.length + added.length) * sizeof(uint32_t);
+}
+
+static inline struct niqastul_index_tables niqastul_index_in(void *memory, size_t vertices,
+                                                             struct niqastul_edges old_edges,
+                                                             struct niqastul_edges added)
+{
+    struct niqastul_index_tables its;
+    its.starts = (uint32_t *)memory;
+    its.neighbours = its.starts + vertices + 1;
+    its.vertices = vertices;
+    its.length = old_edges.length + added.length;
+    return its;
+}
+
+/* For the functions below: the work tables of a call, at the front of the room. If that is too short, they have no
+ * entries, and the call is refused. */
+struct niqastul_work_tables {
+    uint32_t *ends, *jump, *lower;
+    size_t vertices, lower_length;
+};
+
+static inline struct niqastul_work_tables niqastul_work_cut(struct niqastul_work work, size_t vertices,
+                                                            size_t lower_length)
+{
+    struct niqastul_work_tables its;
+    int fits = vertices <= work.length / 2 && lower_length <= work.length - 2 * vertices;
+    its.vertices = fits ? vertices : 0;
+    its.lower_length = fits ? lower_length : 0;
+    its.ends = work.room;
+    its.jump = its.ends + its.vertices;
+    its.lower = its.jump + its.vertices;
+    return its;
+}
+
+/* out has as many entries as the list. The inverse is at the front of the work. */
+static inline uint32_t niqastul_order_relabel(struct niqastul_order order, struct niqastul_edges edges, uint32_t *out,
+                                              struct niqastul_work work)
+{
+    return niqastul_relabel(order.list, order.length, edges.list, edges.length, out, edges.length,
+                            work.room, order.length <= work.length ? order.length : 0);
+}
+
+static inline uint32_t niqastul_net_start(struct niqastul_net net)
+{
+    return niqastul_start(net.parents, net.vertices, net.weights, net.vertices);
+}
+
+static inline uint32_t niqastul_net_add(struct niqastul_net net, struct niqastul_edges edges, struct niqastul_work work,
+                                        uint32_t *moved)
+{
+    struct niqastul_work_tables lent =
+        niqastul_work_cut(work, net.vertices, niqastul_add_lower(net.vertices, edges.length));
+    return niqastul_add(net.parents, net.vertices, net.weights, net.vertices, edges.list, edges.length,
+                        lent.ends, lent.vertices, lent.jump, lent.vertices, lent.lower, lent.lower_length, moved);
+}
+
+static inline uint32_t niqastul_net_join(struct niqastul_net net, struct niqastul_net other, struct niqastul_work work,
+                                         uint32_t *moved)
+{
+    struct niqastul_work_tables lent =
+        niqastul_work_cut(work, net.vertices, niqastul_join_lower(net.vertices, other.vertices));
+    return niqastul_join(net.parents, net.vertices, net.weights, net.vertices,
+                         other.parents, other.vertices, other.weights, other.vertices,
+                         lent.ends, lent.vertices, lent.jump, lent.vertices, lent.lower, lent.lower_length, moved);
+}
+
+static inline uint32_t niqastul_net_save(struct niqastul_net net, uint8_t *bytes, size_t bytes_length)
+{
+    return niqastul_save(net.parents, net.vertices, net.weights, net.vertices, bytes, bytes_length);
+}
+
+static inline uint32_t niqastul_net_read(struct niqastul_net net, const uint8_t *bytes, size_t bytes_length)
+{
+    return niqastul_read(net.parents, net.vertices, net.weights, net.vertices, bytes, bytes_length);
+}
+
+static inline uint32_t niqastul_net_divide(struct niqastul_net net, uint32_t limit, struct niqastul_division division)
+{
+    return niqastul_divide(net.parents, net.vertices, net.weights, net.vertices, limit, division.blocks,
+                           division.carried, division.vertices, division.top, division.vertices,
+                           division.block, division.vertices, division.block_loads, division.blocks);
+}
+
+static inline uint32_t niqastul_net_report(struct niqastul_net net, uint32_t limit, struct niqastul_edges edges,
+                                           struct niqastul_report_tables tables, struct niqastul_work work,
+                                           struct niqastul_totals *totals)
+{
+    struct niqastul_division its = tables.division;
+    struct niqastul_work_tables lent =
+        niqastul_work_cut(work, net.vertices, niqastul_add_lower(net.vertices, edges.length));
+    return niqastul_report(net.parents, net.vertices, net.weights, net.vertices, limit, its.blocks,
+                           edges.list, edges.length, its.carried, its.vertices, its.top, its.vertices,
+                           its.block, its.vertices, its.block_loads, its.blocks, tables.edge_blocks, tables.edges,
+                           tables.reach, its.vertices, tables.block_count, its.vertices,
+                           tables.edges_taken, its.vertices, tables.compared.parents, tables.compared.vertices,
+                           tables.compared.weights, tables.compared.vertices,
+                           lent.ends, lent.vertices, lent.jump, lent.vertices, lent.lower, lent.lower_length,
+                           &totals->bound, &totals->volume, &totals->quotient, &totals->remainder);
+}
+
+static inline uint32_t niqastul_net_separate(struct niqastul_net net, uint32_t one, uint32_t other,
+                                             struct niqastul_edges edges, struct niqastul_separate_tables tables,
+                                             struct niqastul_work work, struct niqastul_separator *separator)
+{
+    struct niqastul_net compared = tables.compared;
+    struct niqastul_work_tables lent =
+        niqastul_work_cut(work, net.vertices, niqastul_add_lower(net.vertices, edges.length));
+    return niqastul_separate(net.parents, net.vertices, net.weights, net.vertices, one, other,
+                             edges.list, edges.length, tables.separator, compared.vertices,
+                             compared.parents, compared.vertices, compared.weights, compared.vertices,
+                             lent.ends, lent.vertices, lent.jump, lent.vertices, lent.lower, lent.lower_length,
+                             &separator->count, &separator->lowest);
+}
+
+static inline uint32_t niqastul_index_build(struct niqastul_edges old_edges, struct niqastul_edges added,
+                                            struct niqastul_index_tables index)
+{
+    return niqastul_index(old_edges.list, old_edges.length, added.list, added.length,
+                          index.starts, index.vertices + 1, index.neighbours, index.length);
+}
+
+static inline uint32_t niqastul_index_query(struct niqastul_index_tables index, uint32_t rank, struct niqastul_run *run)
+{
+    return niqastul_query(index.starts, index.vertices + 1, index.neighbours, index.length, rank,
+                          &run->first, &run->count);
+}
 
 #ifdef __cplusplus
 }

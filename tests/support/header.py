@@ -1,5 +1,6 @@
-"""The calls as include/niqastul.h declares them. What the tests know of the tables of a call, their order and their
-entries, they know from here; of what a table is for, the header's own words say which are work."""
+"""The calls as include/niqastul.h declares them, and its inline functions, which are no part of the library. What the
+tests know of the tables of a call, their order and their entries, they know from here; of what a table is for, the
+header's own words say which are work."""
 
 import re
 from typing import NamedTuple
@@ -22,11 +23,21 @@ class Parameter(NamedTuple):
     code: str
 
 
-def declared(text):
-    """The parameters of each call as they are written, in order."""
+def functions(text, pattern):
+    """The parameters of each function that a pattern finds, as they are written, in order."""
     code = re.sub(r"/\*.*?\*/", "", text, flags=re.S)
-    found = re.findall(r"^uint32_t niqastul_(\w+)\((.*?)\);", code, flags=re.S | re.M)
+    found = re.findall(pattern, code, flags=re.S | re.M)
     return {name: [" ".join(word.split()) for word in words.split(",")] for name, words in found}
+
+
+def declared(text):
+    """Those that end with a semicolon: the calls."""
+    return functions(text, r"^uint32_t niqastul_(\w+)\(([^()]*)\);")
+
+
+def inline(text):
+    """Those that have a body."""
+    return functions(text, r"^static inline [^()]*?niqastul_(\w+)\(([^()]*)\)\s*\{")
 
 
 def work_tables(text):
@@ -56,5 +67,6 @@ def parameters(words, work):
 
 
 DECLARED = declared(TEXT)
+INLINE = inline(TEXT)
 WORK = work_tables(TEXT)
 CALLS = {name: parameters(words, WORK[name]) for name, words in DECLARED.items()}
