@@ -1,6 +1,6 @@
-/* The elimination forest of a graph whose edges are spread over processes: each grows the net of its share, and niqastul_join is the
- * operation by which MPI_Reduce joins them. The link file has the same bytes for any number of processes, since a joined net is the
- * net of all edges, whatever the order.
+/* The elimination forest of a graph whose edges are spread over processes: each grows the net of its share, and a join
+ * is the operation by which MPI_Reduce puts them together. The link file has the same bytes for any number of
+ * processes, since a joined net is the net of all edges, whatever the order.
  *
  *     mpicc parts.c $(pkg-config --cflags --libs niqastul) -o parts        after make install
  *     mpirun -n 4 ./parts marks.ord ties.rec forest.link
@@ -12,7 +12,9 @@
 #include <stdlib.h>
 
 static int process, processes;
-static uint32_t moved; /* where a forest moved: of use to a program that has read it before */
+static size_t n;                  /* the number of vertices */
+static struct niqastul_work work; /* for all calls of this process */
+static uint32_t moved;            /* where a forest moved: of use to a program that has read it before */
 
 static void *room(size_t bytes)
 {
@@ -56,34 +58,43 @@ static void agree(uint32_t answer)
     if (first == UINT64_MAX)
         return;
     if (process == 0)
-        printf("refused %u\n", (uint32_t)first);
+        printf("refused %u: %s\n", (uint32_t)first, niqastul_text((uint32_t)first));
     MPI_Finalize();
     exit(1);
 }
 
-/* The reduction. A net travels as its parents and its weights, one behind the other. */
+/* The reduction. A net travels as the memory that its tables lie in. */
 static void join(void *others, void *nets, int *count, MPI_Datatype *type)
 {
-    int size;
-    MPI_Type_size(*type, &size);
-    size_t n = (size_t)size / 8, most = niqastul_join_lower(n, n);
-    uint32_t *net = nets, *other = others, *work = room(4 * (2 * n + most));
-    for (int i = 0; i < *count; i++, net += 2 * n, other += 2 * n)
-        if (niqastul_join(net, n, net + n, n, other, n, other + n, n, work, n, work + n, n, work + 2 * n, most, &moved))
+    (void)type;
+    char *net = nets, *other = others;
+    for (int i = 0; i < *count; i++, net += niqastul_net_size(n), other += niqastul_net_size(n))
+        if (niqastul_net_join(niqastul_net_in(net, n), niqastul_net_in(other, n), work, &moved))
             MPI_Abort(MPI_COMM_WORLD, 2); /* cannot be: the nets are sound, and the total was looked at */
-    free(work);
 }
 
-static void reduce(uint32_t *net, size_t n)
+static void reduce(void *net)
 {
     MPI_Datatype type;
     MPI_Op joined;
-    MPI_Type_contiguous((int)(2 * n), MPI_UINT32_T, &type);
+    MPI_Type_contiguous((int)(niqastul_net_size(n) / 4), MPI_UINT32_T, &type);
     MPI_Type_commit(&type);
     MPI_Op_create(join, 1, &joined);
     MPI_Reduce(process == 0 ? MPI_IN_PLACE : net, net, 1, type, joined, 0, MPI_COMM_WORLD);
     MPI_Op_free(&joined);
     MPI_Type_free(&type);
+}
+
+static void write_links(const char *path, struct niqastul_net net)
+{
+    size_t length = niqastul_bytes(n);
+    uint8_t *bytes = room(length);
+    if (niqastul_net_save(net, bytes, length))
+        MPI_Abort(MPI_COMM_WORLD, 2);
+    FILE *links = opened(path, "wb");
+    if (fwrite(bytes, 1, length, links) != length || fclose(links))
+        MPI_Abort(MPI_COMM_WORLD, 2);
+    free(bytes);
 }
 
 int main(int count, char **files)
@@ -97,29 +108,23 @@ int main(int count, char **files)
         MPI_Finalize();
         return 2;
     }
-    size_t n, m, vertices, total;
-    uint32_t *order = numbers(files[1], 4, 0, 1, &n, &vertices);
-    uint32_t *edges = numbers(files[2], 8, process, processes, &m, &total);
-    uint32_t *net = room(8 * n), *ranks = room(4 * m), *ends = room(4 * n), *jump = room(4 * n);
-    size_t most = niqastul_add_lower(n, m);
-    uint32_t *lower = room(4 * most);
+    size_t m, vertices, total;
+    uint32_t *vertex = numbers(files[1], 4, 0, 1, &n, &vertices);
+    uint32_t *list = numbers(files[2], 8, process, processes, &m, &total), *ranks = room(4 * m);
+    struct niqastul_order order = {vertex, n};
+    struct niqastul_edges numbered = {list, m}, edges = {ranks, m};
+    void *memory = room(niqastul_net_size(n));
+    struct niqastul_net net = niqastul_net_in(memory, n);
+    work = niqastul_work_in(room(niqastul_work_size(net, edges)), net, edges);
 
-    agree(niqastul_relabel(order, n, edges, m, ranks, m, ends, n));
+    agree(niqastul_order_relabel(order, numbered, ranks, work));
     agree(total > NIQASTUL_MAX_TOTAL ? NIQASTUL_FULL : NIQASTUL_ACCEPTED);
-    agree(niqastul_start(net, n, net + n, n));
-    agree(niqastul_add(net, n, net + n, n, ranks, m, ends, n, jump, n, lower, most, &moved));
-    reduce(net, n);
-
-    if (process == 0) {
-        uint8_t *bytes = room(niqastul_bytes(n));
-        if (niqastul_save(net, n, net + n, n, bytes, niqastul_bytes(n)))
-            MPI_Abort(MPI_COMM_WORLD, 2);
-        FILE *links = opened(files[3], "wb");
-        if (fwrite(bytes, 1, niqastul_bytes(n), links) != niqastul_bytes(n) || fclose(links))
-            MPI_Abort(MPI_COMM_WORLD, 2);
-        free(bytes);
-    }
-    free(order), free(edges), free(net), free(ranks), free(ends), free(jump), free(lower);
+    agree(niqastul_net_start(net));
+    agree(niqastul_net_add(net, edges, work, &moved));
+    reduce(memory);
+    if (process == 0)
+        write_links(files[3], net);
+    free(vertex), free(list), free(ranks), free(memory), free(work.room);
     MPI_Finalize();
     return 0;
 }

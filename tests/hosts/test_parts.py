@@ -33,14 +33,14 @@ class Parts:
         subprocess.run(["mpicc", *words, *sources], check=True)
 
     def run(self, processes, order, edges):
-        """What so many processes print and write, None if they write no file."""
+        """What so many processes print, less the text of a number, and write, None if they write no file."""
         names = [self.folder / name for name in ("marks.ord", "ties.rec", "forest.link")]
         for name, content in zip(names, (order, edges)):
             name.write_bytes(content)
         names[2].unlink(missing_ok=True)
         command = ["mpirun", "--allow-run-as-root", "--oversubscribe", "-n", str(processes), self.program, *names]
         ran = subprocess.run(command, env=ENVIRONMENT, stdout=subprocess.PIPE, stderr=subprocess.DEVNULL, text=True)
-        return ran.stdout.split("\n")[0], names[2].read_bytes() if names[2].exists() else None
+        return ran.stdout.split("\n")[0].split(":")[0], names[2].read_bytes() if names[2].exists() else None
 
 
 @test(at_least=24, missing=MISSING)
