@@ -1,4 +1,7 @@
-"""The history of replay.c, carried out by the oracle alone: the same draws in the same order, and the same lines."""
+"""The history of replay.c, carried out by the oracle alone: the same draws in the same order, and the same lines. The
+tables of a struct stand one behind the other, in the order in which the oracle is given them."""
+
+import itertools
 
 from oracle import between, calls, neighbours
 
@@ -15,13 +18,27 @@ def digest(table):
     return f" {folded >> 32:08x}"
 
 
+def end_to_end(tables):
+    return list(itertools.chain(*tables))
+
+
+def work_length(n, m):
+    """The room for calls on a net of n vertices with lists of m edges."""
+    return 2 * n + max(n + m, 2 * n)
+
+
+def worked(work, needed):
+    """The room that a call has worked in: zeros in front."""
+    return [0] * needed + work[needed:]
+
+
 class Model:
     def __init__(self, seed, n):
         self.state = seed
         self.nets = [self.any_net(n) for _ in range(NETS)]
         self.files = [self.any_file(n) for _ in range(FILES)]
         self.latest = [[] for _ in range(NETS)]
-        self.indexes = [([], []) for _ in range(NETS)]
+        self.indexes = [self.lent(1, 0) for _ in range(NETS)]
         self.answers = []
 
     def draw(self, limit):
@@ -31,19 +48,29 @@ class Model:
     def rarely(self):
         return self.draw(20) == 0
 
-    def lent(self, length):
-        length += self.rarely()
+    def entries(self, length):
         return [self.draw(ANY) for _ in range(length)]
+
+    def lent(self, *lengths):
+        """Tables of a struct."""
+        return [self.entries(length) for length in lengths]
+
+    def work(self, n, m):
+        """Rarely cut short."""
+        room = self.entries(work_length(n, m))
+        return room[:self.draw(len(room) + 1)] if self.rarely() else room
+
+    def almost(self, n):
+        return n + self.rarely()
 
     def any_net(self, n):
         n = self.draw(ROOM) if self.rarely() else n
-        m = self.draw(ROOM) if self.rarely() else n
+        parents, loads = self.lent(n, n)
         kind = self.draw(3)
-        parents = []
-        for rank in range(n):
+        for rank in range(n if kind else 0):
             above = rank + 1 + self.draw(n)
-            parents.append(self.draw(ANY) if kind == 0 else above if above < n else ANY)
-        loads = [self.draw(4) for _ in range(m)]
+            parents[rank] = above if above < n else ANY
+            loads[rank] = self.draw(4)
         if kind == 2 and loads:
             loads[0] += calls.MAX_TOTAL - sum(loads) - self.draw(12)
         return parents, loads
@@ -64,33 +91,31 @@ class Model:
     def vertices(self, net):
         return max(1, len(self.nets[net][0]))
 
-    def worked(self, lengths, outcome, old, lent):
-        """A call with work tables: of another length than it needs they are 2, if nothing before 2 applies; else they
-        end as zeros. The cell that it is lent holds 7 before."""
+    def grown(self, net, more, outcome, work):
+        """A call that grows a net by so many edges or vertices: a room that is too short is 2, if nothing before 2
+        applies. The cell that it is lent holds 7 before."""
         number, *after, moved = outcome
-        if number != 1 and any(len(table) != length for table, length in zip(lent, lengths)):
-            number, after = 2, old
+        needed = 3 * len(self.nets[net][0]) + more
+        if number != 1 and len(work) < needed:
+            number = 2
+        if number == 0:
+            self.nets[net], work = after, worked(work, needed)
         self.figures = f" {7 if number else moved}"
-        return number, after, lent if number else [[0] * len(table) for table in lent]
+        return number, [work]
 
     def start(self, net):
         number, *self.nets[net] = calls.start(*self.nets[net])
         return f"start {net}", number, []
 
     def add(self, net):
-        flat, n = self.edges(self.vertices(net)), len(self.nets[net][0])
-        lengths = [n, n, n + len(flat) // 2]
-        lent = [self.lent(length) for length in lengths]
-        self.latest[net] = flat
-        number, self.nets[net], lent = self.worked(lengths, calls.add(*self.nets[net], flat), self.nets[net], lent)
-        return f"add {net}", number, lent
+        flat = self.latest[net] = self.edges(self.vertices(net))
+        work = self.work(len(self.nets[net][0]), len(flat) // 2)
+        return f"add {net}", *self.grown(net, len(flat) // 2, calls.add(*self.nets[net], flat), work)
 
     def join(self, net, other):
-        n, m = len(self.nets[net][0]), len(self.nets[other][0])
-        lent = [self.lent(length) for length in (n, n, min(ROOM, n + m))]
+        work = self.work(len(self.nets[net][0]), 0)
         outcome = calls.join(*self.nets[net], *self.nets[other])
-        number, self.nets[net], lent = self.worked([n, n, n + m], outcome, self.nets[net], lent)
-        return f"join {net} {other}", number, lent
+        return f"join {net} {other}", *self.grown(net, len(self.nets[other][0]), outcome, work)
 
     def save(self, net, file):
         number, self.files[file] = calls.save(*self.nets[net], self.files[file])
@@ -104,63 +129,58 @@ class Model:
         n = self.vertices(net)
         turn = self.draw(n)
         flat = self.edges(n)
-        out, inverse = self.lent(len(flat)), self.lent(n)
+        work, out = self.work(len(self.nets[net][0]), len(flat) // 2), self.entries(len(flat))
         order = [(i + turn) % n for i in range(n)]
         if self.rarely():
             place = self.draw(n)
             order[place] = self.draw(n)
         number, written = calls.translate(order, flat, out)
-        if len(inverse) != n and number != 1:
-            return "relabel", 2, [out, inverse]
+        if len(work) < n and number != 1:
+            return "relabel", 2, [out, work]
         if number == 0:
-            inverse = [order.index(mark) for mark in range(n)]
-        return "relabel", number, [written, inverse]
+            work[:n] = [order.index(mark) for mark in range(n)]
+        return "relabel", number, [written, work]
 
     def divide(self, net):
+        n = self.almost(len(self.nets[net][0]))
         limit, blocks = self.draw(12), self.draw(BLOCKS + 1)
-        n = len(self.nets[net][0])
-        lent = [self.lent(length) for length in (n, n, n, blocks)]
-        number, *lent = calls.divide(*self.nets[net], limit, blocks, *lent)
-        return f"divide {net}", number, lent
+        number, *lent = calls.divide(*self.nets[net], limit, blocks, *self.lent(n, n, n, blocks))
+        return f"divide {net}", number, [end_to_end(lent)]
 
     def report(self, net):
         """On the list that was last lent to an addition: the net's own, if it was the first."""
-        flat, n = self.latest[net], len(self.nets[net][0])
-        m = len(flat) // 2
+        flat, n = self.latest[net], self.almost(len(self.nets[net][0]))
         limit, blocks = 1 + self.draw(20), 1 + self.draw(BLOCKS)
-        lent = [self.lent(length) for length in (n, n, n, blocks, m, n, n, n, n, n)]
-        lengths = [n, n, n + m]
-        work = [self.lent(length) for length in lengths]
+        lent = self.lent(n, n, n, blocks, len(flat) // 2, n, n, n, n, n)
         outcome = calls.report(*self.nets[net], limit, blocks, flat, *lent)
-        return f"report {net}", *self.compared(lengths, outcome, lent, work)
+        return f"report {net}", *self.compared(net, outcome, lent)
 
     def separate(self, net):
         """Two ranks, on the list that was last lent to an addition."""
-        flat, n = self.latest[net], len(self.nets[net][0])
+        flat, n = self.latest[net], self.almost(len(self.nets[net][0]))
         one, other = self.draw(self.vertices(net) + 1), self.draw(self.vertices(net) + 1)
-        lent = [self.lent(n) for _ in range(3)]
-        lengths = [n, n, n + len(flat) // 2]
-        work = [self.lent(length) for length in lengths]
+        lent = self.lent(n, n, n)
         outcome = between.separate(*self.nets[net], one, other, flat, *lent)
-        return f"separate {net}", *self.compared(lengths, outcome, lent, work)
+        return f"separate {net}", *self.compared(net, outcome, lent)
 
-    def compared(self, lengths, outcome, lent, work):
-        """A call given the net's own edges: its work tables end as zeros after 23 and 31 too. Each cell holds 7
-        before."""
+    def compared(self, net, outcome, lent):
+        """A call given the net's own edges: it has worked after 23 and 31 too. Each cell holds 7 before."""
+        n, m = len(self.nets[net][0]), len(self.latest[net]) // 2
+        work, needed = self.work(n, m), 3 * n + m
         number, after, cells = outcome[0], list(outcome[1:len(lent) + 1]), outcome[len(lent) + 1:]
-        if number != 1 and [len(table) for table in work] != lengths:
+        if number != 1 and len(work) < needed:
             number, after = 2, lent
         if number in (0, 23, 31):
-            work = [[0] * length for length in lengths]
+            work = worked(work, needed)
         self.figures = "".join(f" {7 if number else cell}" for cell in cells)
-        return number, after + work
+        return number, [end_to_end(after), work]
 
     def index(self, net):
         """Of the list that was last lent to an addition, and some more."""
         flat, added = self.latest[net], self.edges(self.vertices(net))
-        lent = self.lent(self.vertices(net) + 1), self.lent(len(flat) + len(added))
+        lent = self.lent(self.almost(self.vertices(net)) + 1, len(flat) + len(added))
         number, *self.indexes[net] = neighbours.index(flat, added, *lent)
-        return f"index {net}", number, self.indexes[net]
+        return f"index {net}", number, [end_to_end(self.indexes[net])]
 
     def query(self, net):
         rank = self.draw(self.vertices(net) + 1)
@@ -196,5 +216,5 @@ class Model:
         else:
             name, number, lent = self.query(net)
         self.answers.append((name.split()[0], number))
-        world = [table for net in self.nets for table in net] + self.files
+        world = [end_to_end(net) for net in self.nets] + self.files
         return f"{name} {number}" + "".join(map(digest, lent)) + self.figures + " :" + "".join(map(digest, world))

@@ -1,7 +1,8 @@
-/* Carries out a history of calls on nets and link files with the library, and prints a digest of every table after
- * each.
+/* Carries out a history of calls on nets and link files with the library, and prints a digest of the tables of each
+ * struct after each call.
  *     replay SEED VERTICES CALLS
- * What is drawn, from the seed alone, is drawn in the same order by model.py, which knows nothing of this library. */
+ * What is drawn, from the seed alone, is drawn in the same order by model.py, which knows nothing of this library. The
+ * tables are nowhere listed here: they are the memory of their struct, whatever that has. */
 #include <inttypes.h>
 #include <niqastul.h>
 #include <stdio.h>
@@ -9,22 +10,17 @@
 
 enum { NETS = 5, FILES = 3, ROOM = 100, EDGES = 40, BLOCKS = 4 };
 
-typedef struct {
+struct file {
+    uint8_t *bytes;
     size_t length;
-    uint32_t entry[ROOM + EDGES + 1];
-} Table;
-
-typedef struct {
-    size_t length;
-    uint8_t entry[8 * ROOM];
-} Bytes;
-
-/* A table as it is passed to a call. */
-#define LENT(table) (table).entry, (table).length
+};
 
 static uint64_t state;
-static Table parents[NETS], weights[NETS], latest[NETS], starts[NETS], neighbours[NETS];
-static Bytes files[FILES];
+static struct niqastul_net nets[NETS];
+static struct niqastul_edges latest[NETS];
+static struct niqastul_index_tables indexes[NETS];
+static struct file files[FILES];
+static uint32_t lists[NETS][EDGES + 1], another_list[EDGES + 1], order_list[ROOM];
 
 /* A number below `limit`: Knuth's multiplier, the upper half of the state. */
 static uint32_t draw(uint32_t limit)
@@ -44,183 +40,219 @@ static uint64_t fold(uint64_t digest, uint64_t entry)
     return (digest ^ entry) * UINT64_C(1099511628211);
 }
 
-static uint32_t digest(const Table *t)
+static void print(const uint32_t *entries, size_t size)
 {
     uint64_t d = UINT64_C(14695981039346656037);
-    for (size_t i = 0; i < t->length; i++) d = fold(d, t->entry[i]);
-    return (uint32_t)(d >> 32);
+    for (size_t i = 0; i < size / 4; i++) d = fold(d, entries[i]);
+    printf(" %08x", (uint32_t)(d >> 32));
 }
 
-static uint32_t digest_bytes(const Bytes *b)
+static void print_file(struct file file)
 {
     uint64_t d = UINT64_C(14695981039346656037);
-    for (size_t i = 0; i < b->length; i++) d = fold(d, b->entry[i]);
-    return (uint32_t)(d >> 32);
+    for (size_t i = 0; i < file.length; i++) d = fold(d, file.bytes[i]);
+    printf(" %08x", (uint32_t)(d >> 32));
 }
 
-static void print(const Table *t)
+static void *room(size_t size)
 {
-    printf(" %08x", digest(t));
+    void *memory = malloc(size + 1);
+    if (!memory) exit(2);
+    return memory;
 }
 
-/* A table as the host finds it: of the length that is needed, or rarely of one more, holding anything. */
-static Table lent(size_t length)
+/* Memory as the host finds it: holding anything. */
+static uint32_t *lent(size_t size)
 {
-    Table t = {.length = length + (size_t)rarely()};
-    for (size_t i = 0; i < t.length; i++) t.entry[i] = draw(UINT32_MAX);
-    return t;
+    uint32_t *entries = room(size);
+    for (size_t i = 0; i < size / 4; i++) entries[i] = draw(UINT32_MAX);
+    return entries;
+}
+
+static void print_and_free(uint32_t *entries, size_t size)
+{
+    print(entries, size);
+    free(entries);
+}
+
+/* What tables are made for: the net that is lent, or rarely one of a vertex more. */
+static struct niqastul_net almost(struct niqastul_net net)
+{
+    net.vertices += (size_t)rarely();
+    return net;
+}
+
+/* Work for a net and a list, rarely cut short. */
+static struct niqastul_work a_work(struct niqastul_net net, struct niqastul_edges edges)
+{
+    struct niqastul_work work = niqastul_work_in(lent(niqastul_work_size(net, edges)), net, edges);
+    if (rarely()) work.length = draw((uint32_t)work.length + 1);
+    return work;
+}
+
+static void print_and_free_work(struct niqastul_work work)
+{
+    print_and_free(work.room, 4 * work.length);
 }
 
 /* What tables hold at first: numbers of any size, a net that is sound, or one whose total is almost the largest. */
-static void fill_net(int net, size_t n)
+static struct niqastul_net a_net(size_t n)
 {
-    Table *p = &parents[net], *w = &weights[net];
-    p->length = rarely() ? draw(ROOM) : n;
-    w->length = rarely() ? draw(ROOM) : p->length;
-    uint32_t kind = draw(3);
-    for (size_t i = 0; i < p->length; i++) {
-        uint32_t above = i + 1 + draw((uint32_t)p->length);
-        p->entry[i] = kind == 0 ? draw(UINT32_MAX) : above < p->length ? above : NIQASTUL_ABSENT;
+    if (rarely()) n = draw(ROOM);
+    struct niqastul_net net = niqastul_net_in(lent(niqastul_net_size(n)), n);
+    uint32_t kind = draw(3), total = 0;
+    for (size_t i = 0; kind != 0 && i < n; i++) {
+        uint32_t above = (uint32_t)i + 1 + draw((uint32_t)n);
+        net.parents[i] = above < n ? above : NIQASTUL_ABSENT;
+        total += net.weights[i] = draw(4);
     }
-    uint32_t total = 0;
-    for (size_t i = 0; i < w->length; i++) total += w->entry[i] = draw(4);
-    if (kind == 2 && w->length != 0) w->entry[0] += NIQASTUL_MAX_TOTAL - total - draw(12);
+    if (kind == 2 && n != 0) net.weights[0] += NIQASTUL_MAX_TOTAL - total - draw(12);
+    return net;
 }
 
-static void fill_file(int file, size_t n)
+static struct file a_file(size_t n)
 {
-    Bytes *b = &files[file];
-    b->length = rarely() ? draw(8 * ROOM) : 8 * n;
-    for (size_t i = 0; i < b->length; i++) b->entry[i] = draw(3) == 0 ? 0 : 255;
+    size_t length = rarely() ? draw((uint32_t)niqastul_bytes(ROOM)) : niqastul_bytes(n);
+    struct file file = {room(length), length};
+    for (size_t i = 0; i < length; i++) file.bytes[i] = draw(3) == 0 ? 0 : 255;
+    return file;
 }
 
 /* A list of edges for n vertices: rarely a number too high, rarely a loop, rarely of odd length. */
-static Table edges(uint32_t n)
+static struct niqastul_edges edges(uint32_t *list, uint32_t n)
 {
-    Table t = {.length = 2 * draw(EDGES / 2)};
-    for (size_t i = 0; i < t.length; i++) t.entry[i] = draw(n + (draw(200) == 0));
-    for (size_t i = 0; i + 1 < t.length; i += 2) {
-        if (t.entry[i] == t.entry[i + 1] && draw(50) != 0) t.entry[i] = (t.entry[i] + 1) % n;
+    size_t length = 2 * draw(EDGES / 2);
+    for (size_t i = 0; i < length; i++) list[i] = draw(n + (draw(200) == 0));
+    for (size_t i = 0; i + 1 < length; i += 2) {
+        if (list[i] == list[i + 1] && draw(50) != 0) list[i] = (list[i] + 1) % n;
     }
-    if (rarely()) t.length++;
-    return t;
+    if (rarely()) list[length++] = 0;
+    return (struct niqastul_edges){list, length};
 }
 
 static uint32_t vertices(int net)
 {
-    return parents[net].length == 0 ? 1 : (uint32_t)parents[net].length;
+    return nets[net].vertices == 0 ? 1 : (uint32_t)nets[net].vertices;
 }
 
 static void start(int net)
 {
-    printf("start %d %u", net, niqastul_start(LENT(parents[net]), LENT(weights[net])));
+    printf("start %d %u", net, niqastul_net_start(nets[net]));
 }
 
 static void add(int net)
 {
-    Table *p = &parents[net], *w = &weights[net], list = edges(vertices(net));
-    Table ends = lent(p->length), jump = lent(p->length), lower = lent(niqastul_add_lower(p->length, list.length));
+    latest[net] = edges(lists[net], vertices(net));
+    struct niqastul_work work = a_work(nets[net], latest[net]);
     uint32_t moved = 7;
-    latest[net] = list;
-    printf("add %d %u", net, niqastul_add(LENT(*p), LENT(*w), LENT(list), LENT(ends), LENT(jump), LENT(lower), &moved));
-    print(&ends), print(&jump), print(&lower);
+    printf("add %d %u", net, niqastul_net_add(nets[net], latest[net], work, &moved));
+    print_and_free_work(work);
     printf(" %u", moved);
 }
 
 static void join(int net, int other)
 {
-    Table *p = &parents[net], *w = &weights[net], *q = &parents[other], *v = &weights[other];
-    Table ends = lent(p->length), jump = lent(p->length);
-    Table lower = lent(p->length + q->length > ROOM ? ROOM : niqastul_join_lower(p->length, q->length));
+    struct niqastul_edges none = {NULL, 0};
+    struct niqastul_work work = a_work(nets[net], none);
     uint32_t moved = 7;
-    printf("join %d %d %u", net, other, niqastul_join(LENT(*p), LENT(*w), LENT(*q), LENT(*v),
-        LENT(ends), LENT(jump), LENT(lower), &moved));
-    print(&ends), print(&jump), print(&lower);
+    printf("join %d %d %u", net, other, niqastul_net_join(nets[net], nets[other], work, &moved));
+    print_and_free_work(work);
     printf(" %u", moved);
 }
 
 static void save(int net, int file)
 {
-    printf("save %d %d %u", net, file, niqastul_save(LENT(parents[net]), LENT(weights[net]), LENT(files[file])));
+    printf("save %d %d %u", net, file, niqastul_net_save(nets[net], files[file].bytes, files[file].length));
 }
 
 static void read(int net, int file)
 {
-    printf("read %d %d %u", net, file, niqastul_read(LENT(parents[net]), LENT(weights[net]), LENT(files[file])));
+    printf("read %d %d %u", net, file, niqastul_net_read(nets[net], files[file].bytes, files[file].length));
 }
 
 static void relabel(int net)
 {
     uint32_t n = vertices(net), turn = draw(n);
-    Table order = {.length = n}, list = edges(n), out = lent(list.length), inverse = lent(n);
-    for (uint32_t i = 0; i < n; i++) order.entry[i] = (i + turn) % n;
+    struct niqastul_order order = {order_list, n};
+    struct niqastul_edges list = edges(another_list, n);
+    struct niqastul_work work = a_work(nets[net], list);
+    uint32_t *out = lent(4 * list.length);
+    for (uint32_t i = 0; i < n; i++) order_list[i] = (i + turn) % n;
     if (rarely()) {
         uint32_t place = draw(n);
-        order.entry[place] = draw(n);
+        order_list[place] = draw(n);
     }
-    printf("relabel %u", niqastul_relabel(LENT(order), LENT(list), LENT(out), LENT(inverse)));
-    print(&out), print(&inverse);
+    printf("relabel %u", niqastul_order_relabel(order, list, out, work));
+    print_and_free(out, 4 * list.length);
+    print_and_free_work(work);
 }
 
 static void divide(int net)
 {
-    Table *p = &parents[net], *w = &weights[net];
+    struct niqastul_net like = almost(nets[net]);
     uint32_t limit = draw(12), blocks = draw(BLOCKS + 1);
-    Table carried = lent(p->length), top = lent(p->length), block = lent(p->length), loads = lent(blocks);
-    printf("divide %d %u", net, niqastul_divide(LENT(*p), LENT(*w), limit, blocks,
-        LENT(carried), LENT(top), LENT(block), LENT(loads)));
-    print(&carried), print(&top), print(&block), print(&loads);
+    size_t size = niqastul_division_size(like, blocks);
+    uint32_t *memory = lent(size);
+    struct niqastul_division division = niqastul_division_in(memory, like, blocks);
+    printf("divide %d %u", net, niqastul_net_divide(nets[net], limit, division));
+    print_and_free(memory, size);
 }
 
 /* On the list that was last lent to an addition: the net's own, if it was the first. */
 static void report(int net)
 {
-    Table *p = &parents[net], *w = &weights[net], *list = &latest[net];
-    size_t n = p->length, m = list->length / 2;
+    struct niqastul_net like = almost(nets[net]);
     uint32_t limit = 1 + draw(20), blocks = 1 + draw(BLOCKS);
-    Table carried = lent(n), top = lent(n), block = lent(n), loads = lent(blocks), edge_blocks = lent(m);
-    Table reach = lent(n), count = lent(n), taken = lent(n), its_parents = lent(n), its_weights = lent(n);
-    Table ends = lent(n), jump = lent(n), lower = lent(niqastul_add_lower(n, list->length));
-    uint64_t bound = 7, volume = 7;
-    uint32_t quotient = 7, remainder = 7;
-    printf("report %d %u", net, niqastul_report(LENT(*p), LENT(*w), limit, blocks, LENT(*list),
-        LENT(carried), LENT(top), LENT(block), LENT(loads), LENT(edge_blocks), LENT(reach), LENT(count), LENT(taken),
-        LENT(its_parents), LENT(its_weights), LENT(ends), LENT(jump), LENT(lower),
-        &bound, &volume, &quotient, &remainder));
-    print(&carried), print(&top), print(&block), print(&loads), print(&edge_blocks), print(&reach), print(&count);
-    print(&taken), print(&its_parents), print(&its_weights), print(&ends), print(&jump), print(&lower);
-    printf(" %" PRIu64 " %" PRIu64 " %u %u", bound, volume, quotient, remainder);
+    size_t size = niqastul_report_size(like, blocks, latest[net]);
+    uint32_t *memory = lent(size);
+    struct niqastul_report_tables tables = niqastul_report_in(memory, like, blocks, latest[net]);
+    struct niqastul_work work = a_work(nets[net], latest[net]);
+    struct niqastul_totals its = {7, 7, 7, 7};
+    printf("report %d %u", net, niqastul_net_report(nets[net], limit, latest[net], tables, work, &its));
+    print_and_free(memory, size);
+    print_and_free_work(work);
+    printf(" %" PRIu64 " %" PRIu64 " %u %u", its.bound, its.volume, its.quotient, its.remainder);
 }
 
 /* Two ranks, on the list that was last lent to an addition. */
 static void separate(int net)
 {
-    Table *p = &parents[net], *w = &weights[net], *list = &latest[net];
-    size_t n = p->length;
-    uint32_t one = draw(vertices(net) + 1), other = draw(vertices(net) + 1), count = 7, lowest = 7;
-    Table separator = lent(n), its_parents = lent(n), its_weights = lent(n);
-    Table ends = lent(n), jump = lent(n), lower = lent(niqastul_add_lower(n, list->length));
-    printf("separate %d %u", net, niqastul_separate(LENT(*p), LENT(*w), one, other, LENT(*list),
-        LENT(separator), LENT(its_parents), LENT(its_weights), LENT(ends), LENT(jump), LENT(lower), &count, &lowest));
-    print(&separator), print(&its_parents), print(&its_weights), print(&ends), print(&jump), print(&lower);
-    printf(" %u %u", count, lowest);
+    struct niqastul_net like = almost(nets[net]);
+    uint32_t one = draw(vertices(net) + 1), other = draw(vertices(net) + 1);
+    size_t size = niqastul_separate_size(like);
+    uint32_t *memory = lent(size);
+    struct niqastul_separate_tables tables = niqastul_separate_in(memory, like);
+    struct niqastul_work work = a_work(nets[net], latest[net]);
+    struct niqastul_separator its = {7, 7};
+    printf("separate %d %u", net, niqastul_net_separate(nets[net], one, other, latest[net], tables, work, &its));
+    print_and_free(memory, size);
+    print_and_free_work(work);
+    printf(" %u %u", its.count, its.lowest);
+}
+
+/* Tables for an index of so many vertices and two lists, in the place of those that the net had. */
+static void lend_index(int net, size_t n, struct niqastul_edges old_edges, struct niqastul_edges added)
+{
+    free(indexes[net].starts);
+    indexes[net] = niqastul_index_in(lent(niqastul_index_size(n, old_edges, added)), n, old_edges, added);
 }
 
 /* The list that was last lent to an addition, and some more. */
 static void make_index(int net)
 {
-    Table *list = &latest[net], added = edges(vertices(net));
-    starts[net] = lent(vertices(net) + 1), neighbours[net] = lent(list->length + added.length);
-    printf("index %d %u", net, niqastul_index(LENT(*list), LENT(added), LENT(starts[net]), LENT(neighbours[net])));
-    print(&starts[net]), print(&neighbours[net]);
+    struct niqastul_edges added = edges(another_list, vertices(net));
+    size_t n = vertices(net) + (size_t)rarely();
+    lend_index(net, n, latest[net], added);
+    printf("index %d %u", net, niqastul_index_build(latest[net], added, indexes[net]));
+    print(indexes[net].starts, niqastul_index_size(n, latest[net], added));
 }
 
 static void query(int net)
 {
     uint32_t rank = draw(vertices(net) + 1);
-    uint64_t first = 7, count = 7;
-    printf("query %d %u", net, niqastul_query(LENT(starts[net]), LENT(neighbours[net]), rank, &first, &count));
-    printf(" %" PRIu64 " %" PRIu64, first, count);
+    struct niqastul_run run = {7, 7};
+    printf("query %d %u", net, niqastul_index_query(indexes[net], rank, &run));
+    printf(" %" PRIu64 " %" PRIu64, run.first, run.count);
 }
 
 static void step(void)
@@ -239,8 +271,8 @@ static void step(void)
     else if (call < 25) separate(net);
     else query(net);
     printf(" :");
-    for (int i = 0; i < NETS; i++) print(&parents[i]), print(&weights[i]);
-    for (int i = 0; i < FILES; i++) printf(" %08x", digest_bytes(&files[i]));
+    for (int i = 0; i < NETS; i++) print(nets[i].parents, niqastul_net_size(nets[i].vertices));
+    for (int i = 0; i < FILES; i++) print_file(files[i]);
     printf("\n");
 }
 
@@ -251,8 +283,9 @@ int main(int count, char **words)
     size_t n = strtoull(words[2], NULL, 10);
     long calls = strtol(words[3], NULL, 10);
     if (n == 0 || n >= ROOM) return 2;
-    for (int i = 0; i < NETS; i++) fill_net(i, n);
-    for (int i = 0; i < FILES; i++) fill_file(i, n);
+    for (int i = 0; i < NETS; i++) nets[i] = a_net(n);
+    for (int i = 0; i < FILES; i++) files[i] = a_file(n);
+    for (int i = 0; i < NETS; i++) lend_index(i, 0, latest[i], latest[i]);
     for (long i = 0; i < calls; i++) step();
     return 0;
 }
