@@ -1,5 +1,6 @@
-/* Measures the public calls beside their peers, in one run on the same nets, the best of several runs of each. Prints a line for each
- * measurement, its fields separated by tabs: what, family, vertices, edges, then pairs of a name and milliseconds.
+/* Measures the public calls beside their peers, in one run on the same nets, the best of several runs of each. Prints a
+ * line for each measurement, its fields separated by tabs: what, family, vertices, edges, then pairs of a name and
+ * milliseconds.
  *
  *     bench [MOST [FAMILY]]        up to so many vertices; only families whose name begins so */
 #include "index.h"
@@ -8,50 +9,47 @@
 #include "timing.h"
 
 #include <malloc.h>
-#include <niqastul.h>
 #include <stdlib.h>
 #include <string.h>
 
 enum { FEW = 100, STRETCH = 1024 };
 
-static uint32_t join(struct tables *t, size_t n)
+static uint32_t join(struct tables *t)
 {
     uint32_t moved;
-    must(niqastul_join(t->parents, n, t->weights, n, t->parents2, n, t->weights2, n, t->ends, n, t->jump, n, t->lower, 2 * n,
-                       &moved) == 0,
-         "join refused");
+    must(niqastul_net_join(t->net, t->other, t->work, &moved) == 0, "join refused");
     return moved;
 }
 
 static void relabel(const struct net *net, struct tables *t)
 {
-    size_t n = net->vertices, m = 2 * net->edges;
-    must(niqastul_relabel(net->order, n, net->list, m, t->ranks, m, t->ends, n) == 0, "relabel refused");
+    struct niqastul_order order = {net->order, net->vertices};
+    must(niqastul_order_relabel(order, edges_of(net->list, net->edges), t->ranks, t->work) == 0, "relabel refused");
 }
 
-static void save(struct tables *t, size_t n)
+static void save(struct tables *t)
 {
-    must(niqastul_save(t->parents, n, t->weights, n, t->bytes, 8 * n) == 0, "save refused");
+    must(niqastul_net_save(t->net, t->bytes, niqastul_bytes(t->net.vertices)) == 0, "save refused");
 }
 
-static void read(struct tables *t, size_t n)
+static void read(struct tables *t)
 {
-    must(niqastul_read(t->parents, n, t->weights, n, t->bytes, 8 * n) == 0, "read refused");
+    must(niqastul_net_read(t->net, t->bytes, niqastul_bytes(t->net.vertices)) == 0, "read refused");
 }
 
-static void divide(struct tables *t, size_t n, uint32_t limit, uint32_t blocks)
+static void divide(struct tables *t, uint32_t limit, uint32_t blocks)
 {
-    must(niqastul_divide(t->parents, n, t->weights, n, limit, blocks, t->carried, n, t->top, n, t->block, n, t->block_loads, blocks) == 0,
-         "divide refused");
+    struct niqastul_division division = t->division;
+    division.blocks = blocks;
+    must(niqastul_net_divide(t->net, limit, division) == 0, "divide refused");
 }
 
-static void report(const struct net *net, struct tables *t, uint32_t limit, uint32_t blocks, struct figures *its)
+static void report(const struct net *net, struct tables *t, uint32_t limit, uint32_t blocks,
+                   struct niqastul_totals *its)
 {
-    size_t n = net->vertices, m = net->edges;
-    must(niqastul_report(t->parents, n, t->weights, n, limit, blocks, net->list, 2 * m, t->carried, n, t->top, n, t->block, n,
-                         t->block_loads, blocks, t->edge_blocks, m, t->reach, n, t->block_count, n, t->edges_taken, n, t->parents2, n,
-                         t->weights2, n, t->ends, n, t->jump, n, t->lower, n + m, &its->bound, &its->volume, &its->quotient,
-                         &its->remainder) == 0,
+    struct niqastul_report_tables tables = t->report;
+    tables.division.blocks = blocks;
+    must(niqastul_net_report(t->net, limit, edges_of(net->list, net->edges), tables, t->work, its) == 0,
          "report refused");
 }
 
@@ -75,8 +73,8 @@ static uint64_t pass(const uint32_t *parents, const uint32_t *weights, size_t n)
     return sum;
 }
 
-/* What a host does that is not told where a forest moved: it compares all parents with a copy from before, a stretch at a time, and
- * copies them anew from the first on that is another, which is answered. */
+/* What a host does that is not told where a forest moved: it compares all parents with a copy from before, a stretch at
+ * a time, and copies them anew from the first on that is another, which is answered. */
 static uint32_t compare_all(const uint32_t *parents, uint32_t *copy, size_t n)
 {
     size_t x = 0;
@@ -103,80 +101,85 @@ static void measure(const char *family, const struct net *net)
 {
     size_t n = net->vertices, m = net->edges, half = m / 2, few = m < FEW ? m : FEW;
     struct tables t = make_tables(n, m);
-    uint32_t *first = room(n, 4), *first_weights = room(n, 4), *second = room(n, 4), *second_weights = room(n, 4);
-    uint32_t *most = room(n, 4), *most_weights = room(n, 4), *plain_count = room(n, 4), *plain_taken = room(n, 4);
+    struct niqastul_net first = new_net(n), second = new_net(n), most = new_net(n);
+    struct niqastul_edges whole = edges_of(net->list, m), last = edges_of(net->list + 2 * (m - few), few);
+    uint32_t *spare = room(2 * n, 4), *plain_count = spare, *plain_taken = spare + n;
     int *parents = NULL;
-    double grow, peer, triplets, plain, added, one_pass, joined, plain_joined, relabelled, checked_relabelled, plain_relabelled;
-    double compared, saved, plain_saved, was_read, plain_was_read;
-    static const uint32_t blocks[] = {16, MAX_BLOCKS}, reported_blocks[] = {16, 2};
+    double grow, peer, triplets, plain, added, one_pass, joined, plain_joined, relabelled;
+    double checked_relabelled, plain_relabelled, compared, saved, plain_saved, was_read, plain_was_read;
+    static const uint32_t blocks[] = {16, NIQASTUL_MAX_BLOCKS}, reported_blocks[] = {16, 2};
     double divided[] = {1e300, 1e300}, plain_divided[] = {1e300, 1e300};
     double reported[] = {1e300, 1e300}, plain_reported[] = {1e300, 1e300}, counted = 1e300;
-    grow = peer = triplets = plain = added = one_pass = joined = plain_joined = relabelled = checked_relabelled = plain_relabelled = 1e300;
-    compared = saved = plain_saved = was_read = plain_was_read = 1e300;
+    grow = peer = triplets = plain = added = one_pass = joined = plain_joined = relabelled = 1e300;
+    checked_relabelled = plain_relabelled = compared = saved = plain_saved = was_read = plain_was_read = 1e300;
 
-    start(first, first_weights, n);
-    add(&t, first, first_weights, n, net->list, half);
-    start(second, second_weights, n);
-    add(&t, second, second_weights, n, net->list + 2 * half, m - half);
-    start(most, most_weights, n);
-    add(&t, most, most_weights, n, net->list, m - few);
+    start(first);
+    add(first, edges_of(net->list, half), &t);
+    start(second);
+    add(second, edges_of(net->list + 2 * half, m - half), &t);
+    start(most);
+    add(most, edges_of(net->list, m - few), &t);
     for (int round = 0; round < rounds(net); round++) {
         TIME(triplets, free(parents), parents = suitesparse_etree_by_triplets(net));
         TIME(peer, free(parents), parents = suitesparse_etree(net, &t));
         TIME(plain, , plain_grow(net, &t));
-        must(!memcmp(parents, t.parents, 4 * n), "plain C and SuiteSparse disagree");
+        must(!memcmp(parents, t.net.parents, 4 * n), "plain C and SuiteSparse disagree");
 
         /* plain C leaves its counts in the table of ends; a call leaves zeros, so that is how the next one finds it */
-        TIME(grow, (memset(t.parents, 1, 4 * n), memset(t.ends, 0, 4 * n)), (start(t.parents, t.weights, n), add(&t, t.parents, t.weights, n, net->list, m)));
-        must(!memcmp(parents, t.parents, 4 * n), "the library and SuiteSparse disagree on growing");
+        TIME(grow, (memset(t.net.parents, 1, 4 * n), memset(t.ends, 0, 4 * n)), (start(t.net), add(t.net, whole, &t)));
+        must(!memcmp(parents, t.net.parents, 4 * n), "the library and SuiteSparse disagree on growing");
 
         uint32_t moved, plain_moved;
-        TIME(added, (memcpy(t.parents, most, 4 * n), memcpy(t.weights, most_weights, 4 * n)),
-             moved = add(&t, t.parents, t.weights, n, net->list + 2 * (m - few), few));
-        must(!memcmp(parents, t.parents, 4 * n), "the library and SuiteSparse disagree on adding");
-        TIME(one_pass, , sink = pass(t.parents, t.weights, n));
-        TIME(compared, memcpy(t.parents2, most, 4 * n), plain_moved = compare_all(t.parents, t.parents2, n));
+        TIME(added, copy_net(t.net, most), moved = add(t.net, last, &t));
+        must(!memcmp(parents, t.net.parents, 4 * n), "the library and SuiteSparse disagree on adding");
+        TIME(one_pass, , sink = pass(t.net.parents, t.net.weights, n));
+        TIME(compared, memcpy(t.other.parents, most.parents, 4 * n),
+             plain_moved = compare_all(t.net.parents, t.other.parents, n));
         must(moved == plain_moved, "the library and plain C disagree on where the forest moved");
 
-        memcpy(t.parents2, second, 4 * n), memcpy(t.weights2, second_weights, 4 * n);
-        TIME(plain_joined, memcpy(t.parents, first, 4 * n), plain_join(n, &t));
-        must(!memcmp(parents, t.parents, 4 * n), "plain C and SuiteSparse disagree on joining");
-        TIME(joined, (memcpy(t.parents, first, 4 * n), memcpy(t.weights, first_weights, 4 * n)), moved = join(&t, n));
-        must(!memcmp(parents, t.parents, 4 * n), "the library and SuiteSparse disagree on joining");
-        memcpy(t.parents2, first, 4 * n);
-        must(moved == compare_all(t.parents, t.parents2, n), "the library and plain C disagree on where a joined forest moved");
+        copy_net(t.other, second);
+        TIME(plain_joined, memcpy(t.net.parents, first.parents, 4 * n), plain_join(n, &t));
+        must(!memcmp(parents, t.net.parents, 4 * n), "plain C and SuiteSparse disagree on joining");
+        TIME(joined, copy_net(t.net, first), moved = join(&t));
+        must(!memcmp(parents, t.net.parents, 4 * n), "the library and SuiteSparse disagree on joining");
+        memcpy(t.other.parents, first.parents, 4 * n);
+        must(moved == compare_all(t.net.parents, t.other.parents, n),
+             "the library and plain C disagree on where a joined forest moved");
 
         TIME(plain_saved, , plain_save(n, &t));
-        TIME(saved, , save(&t, n));
-        TIME(plain_was_read, memset(t.parents, 1, 4 * n), plain_read(n, &t));
-        TIME(was_read, memset(t.parents, 1, 4 * n), read(&t, n));
-        must(!memcmp(parents, t.parents, 4 * n), "what was saved is not what is read");
+        TIME(saved, , save(&t));
+        TIME(plain_was_read, memset(t.net.parents, 1, 4 * n), plain_read(n, &t));
+        TIME(was_read, memset(t.net.parents, 1, 4 * n), read(&t));
+        must(!memcmp(parents, t.net.parents, 4 * n), "what was saved is not what is read");
 
         for (int k = 0; k < 2; k++) {
-            uint32_t limit = limit_for(blocks[k], t.weights, n);
+            uint32_t limit = limit_for(blocks[k], t.net.weights, n);
             TIME(plain_divided[k], , plain_divide(n, limit, blocks[k], &t));
-            memcpy(t.parents2, t.block, 4 * n), memcpy(t.weights2, t.block_loads, 4 * blocks[k]);
-            TIME(divided[k], memset(t.block, 1, 4 * n), divide(&t, n, limit, blocks[k]));
-            must(!memcmp(t.parents2, t.block, 4 * n) && !memcmp(t.weights2, t.block_loads, 4 * blocks[k]),
+            memcpy(t.other.parents, t.division.block, 4 * n);
+            memcpy(t.other.weights, t.division.block_loads, 4 * blocks[k]);
+            TIME(divided[k], memset(t.division.block, 1, 4 * n), divide(&t, limit, blocks[k]));
+            must(!memcmp(t.other.parents, t.division.block, 4 * n) &&
+                     !memcmp(t.other.weights, t.division.block_loads, 4 * blocks[k]),
                  "the library and plain C disagree on dividing");
         }
 
         int *counts = NULL;
         TIME(counted, , counts = suitesparse_counts(net, parents, &t));
         for (int k = 0; k < 2; k++) {
-            uint32_t limit = limit_for(reported_blocks[k], t.weights, n);
-            struct figures its, plain_its;
+            uint32_t limit = limit_for(reported_blocks[k], t.net.weights, n);
+            struct niqastul_totals its, plain_its;
             TIME(plain_reported[k], , plain_report(net, limit, reported_blocks[k], &t, &plain_its));
-            exchange(&plain_count, &t.block_count), exchange(&plain_taken, &t.edges_taken);
+            exchange(&plain_count, &t.report.block_count), exchange(&plain_taken, &t.report.edges_taken);
             TIME(reported[k], , report(net, &t, limit, reported_blocks[k], &its));
             must(its.bound == plain_its.bound && its.volume == plain_its.volume && its.volume <= its.bound,
                  "the library and plain C disagree on a report");
             must(its.quotient == plain_its.quotient && its.remainder == plain_its.remainder,
                  "the library and plain C disagree on the even share");
-            must(!memcmp(plain_count, t.block_count, 4 * n), "the library and plain C disagree on block counts");
-            must(!memcmp(plain_taken, t.edges_taken, 4 * n), "the library and plain C disagree on the edges taken");
+            must(!memcmp(plain_count, t.report.block_count, 4 * n), "the library and plain C disagree on block counts");
+            must(!memcmp(plain_taken, t.report.edges_taken, 4 * n),
+                 "the library and plain C disagree on the edges taken");
             for (size_t x = 0; x < n; x++)
-                must((uint32_t)counts[x] == t.reach[x] + 1, "the library and SuiteSparse disagree on reaches");
+                must((uint32_t)counts[x] == t.report.reach[x] + 1, "the library and SuiteSparse disagree on reaches");
         }
         free(counts);
 
@@ -207,8 +210,7 @@ static void measure(const char *family, const struct net *net)
         printf("\tniqastul\t%.4f\tSuiteSparse\t%.4f\tplain C\t%.4f\n", reported[k], peer + counted, plain_reported[k]);
     }
     fflush(stdout);
-    free(first), free(first_weights), free(second), free(second_weights), free(most), free(most_weights), free(parents);
-    free(plain_count), free(plain_taken);
+    free(first.parents), free(second.parents), free(most.parents), free(parents), free(spare);
     free_tables(&t);
 }
 

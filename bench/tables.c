@@ -1,33 +1,67 @@
 #include "tables.h"
 #include "timing.h"
 
-#include <niqastul.h>
+struct niqastul_net new_net(size_t n)
+{
+    return niqastul_net_in(room(niqastul_net_size(n), 1), n);
+}
+
+void copy_net(struct niqastul_net to, struct niqastul_net from)
+{
+    memcpy(to.parents, from.parents, niqastul_net_size(to.vertices));
+}
+
+struct niqastul_edges edges_of(const uint32_t *list, size_t m)
+{
+    return (struct niqastul_edges){list, 2 * m};
+}
+
+/* Memory that both the library and the peers work in. */
+static void make_work(struct tables *t, size_t n, size_t m)
+{
+    struct niqastul_edges whole = edges_of(NULL, m);
+    size_t own = niqastul_work_size(t->net, whole), peers = 4 * (3 * n + (m > n ? m : n));
+    t->work = niqastul_work_in(room(own > peers ? own : peers, 1), t->net, whole);
+    t->ends = t->work.room;
+    t->jump = t->ends + n;
+    t->lower = t->jump + n;
+}
+
+static void make_report(struct tables *t, size_t m)
+{
+    struct niqastul_edges whole = edges_of(NULL, m);
+    size_t size = niqastul_report_size(t->net, NIQASTUL_MAX_BLOCKS, whole);
+    t->report = niqastul_report_in(room(size, 1), t->net, NIQASTUL_MAX_BLOCKS, whole);
+    t->report.compared = t->other;
+    t->division = t->report.division;
+}
 
 struct tables make_tables(size_t n, size_t m)
 {
-    return (struct tables){room(n, 4), room(n, 4), room(n, 4), room(n, 4), room(n + (m > n ? m : n), 4), room(n, 4), room(n, 4),
-                           room(2 * m, 4), room(n + 1, sizeof(int)), room(m, sizeof(int)), room(8 * n, 1),
-                           room(n, 4), room(n, 4), room(n, 4), room(MAX_BLOCKS, 4),
-                           room(n, 4), room(m, 4), room(n, 4), room(n, 4)};
+    struct tables t = {.net = new_net(n), .other = new_net(n)};
+    make_work(&t, n, m);
+    make_report(&t, m);
+    t.ranks = room(2 * m, 4);
+    t.start = room(n + 1, sizeof(int));
+    t.row = room(m, sizeof(int));
+    t.bytes = room(niqastul_bytes(n), 1);
+    return t;
 }
 
 void free_tables(struct tables *t)
 {
-    void *all[] = {t->parents, t->weights, t->ends,  t->jump,    t->lower, t->parents2, t->weights2,   t->ranks,
-                   t->start,   t->row,     t->bytes, t->carried, t->top,   t->block,    t->block_loads, t->reach,
-                   t->edge_blocks, t->block_count, t->edges_taken};
-    for (size_t i = 0; i < sizeof all / sizeof *all; i++)
-        free(all[i]);
+    free(t->net.parents), free(t->other.parents), free(t->work.room), free(t->division.carried);
+    free(t->ranks), free(t->start), free(t->row), free(t->bytes);
 }
 
-void start(uint32_t *parents, uint32_t *weights, size_t n)
+void start(struct niqastul_net net)
 {
-    must(niqastul_start(parents, n, weights, n) == 0, "start refused");
+    must(niqastul_net_start(net) == 0, "start refused");
 }
 
-uint32_t add(struct tables *t, uint32_t *parents, uint32_t *weights, size_t n, const uint32_t *edges, size_t m)
+uint32_t add(struct niqastul_net net, struct niqastul_edges edges, const struct tables *t)
 {
     uint32_t moved;
-    must(niqastul_add(parents, n, weights, n, edges, 2 * m, t->ends, n, t->jump, n, t->lower, n + m, &moved) == 0, "add refused");
+    must(niqastul_net_add(net, edges, t->work, &moved) == 0, "add refused");
     return moved;
 }
