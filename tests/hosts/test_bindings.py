@@ -1,5 +1,5 @@
 """The bindings' own tests, and the examples in C, Python and Rust: the same files give the same blocks, those of the
-oracle."""
+oracle. What pages show in C gives the blocks that they say."""
 
 import os
 import pathlib
@@ -10,7 +10,7 @@ import sys
 import tempfile
 
 from oracle import blocks
-from support import ROOT, nets
+from support import ROOT, compiled, nets
 from support.files import THREE, file_of
 from support.harness import test
 
@@ -74,3 +74,17 @@ def examples(t):
                     t.true(ran.returncode != 0 and told, program, seed, ran.stderr)
                 else:
                     t.same(ran.stdout, wanted, program, seed)
+
+
+# pages that show the whole case in C, and the table that has its blocks in the end
+SHOWN = {"README.md": "block", "docs/CALLS.md": "its.block"}
+
+
+@test(at_least=2)
+def shown_in_c(t):
+    for page, block in SHOWN.items():
+        parts = re.findall(r"^```c\n(.*?)^```", (ROOT / page).read_text(encoding="utf-8"), flags=re.S | re.M)
+        [code] = [part for part in parts if "= {0,2, 0,4" in part]
+        includes = "".join(f"#include <{name}.h>\n" for name in ("niqastul", "stdio", "stdlib"))
+        source = f"int main(void) {{ {code} for (int i = 0; i < 6; i++) printf(\"%u \", {block}[i]); }}"
+        t.same(compiled.printed("gcc -std=c99 -x c", includes + source), "0 1 0 1 1 1 ", page)
