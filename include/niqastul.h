@@ -1,30 +1,33 @@
-/* Niqastul: elimination forests of graphs, grown, joined and divided, and indexes of neighbours. Every call below is
- * proved to do what is written here (crates/exports); this header is what a C or C++ program sees of it. The calls come
- * twice: first each as the library has it, with every table a parameter, then over structs of tables, at the end of the
- * header. The second form is the one for most programs; it only passes on tables to the first.
+/* Niqastul: elimination forests of graphs, grown, joined and divided, and indexes of neighbours. This header is what a
+ * C or C++ program sees of it. The calls come twice. First each stands as the library has it, with every table a
+ * parameter: these are proved to do what is written here (crates/exports). At the end they stand over structs of
+ * tables, for most programs the better form: inline functions that pass tables on to the first, and are tested.
  *
- * TABLES. A table is passed as a pointer and its number of entries. A graph has n vertices, 1 to NIQASTUL_MAX_VERTICES, named
- * by their ranks 0 to n-1 in an elimination order. An edge list holds two vertices to an edge, edges may repeat, and its
- * length is the number of its entries, twice that of its edges. A net is two tables of n entries, lent to every call:
+ * TABLES. A table is passed as a pointer and its number of entries. A graph has n vertices, 1 to NIQASTUL_MAX_VERTICES,
+ * named by their ranks 0 to n-1 in an elimination order. An edge list holds two vertices to an edge, edges may repeat,
+ * and its length is the number of its entries, twice that of its edges. A net is two tables of n entries, lent to every
+ * call:
  *     parents[x]   the parent of x in the elimination forest, above x, or NIQASTUL_ABSENT;
  *     weights[x]   the number of edges whose lower end is x, repeats counted.
  * An index is two tables beside an edge list:
- *     neighbours   the runs of all vertices end to end, by rising rank, as long as the list: the run of x has for each edge at x, in
- *                  the order of the list, its other end, repeats included;
- *     starts[x]    where the run of x starts in neighbours, n+1 entries: it ends where that of x+1 starts, and the last entry is the
- *                  end of the last run.
- * n is the length of parents, of an index that of starts less one, and every other table must have exactly the length that is named
- * at the call. Work tables are room that the call needs and that the caller lends; what they hold before does not matter.
+ *     neighbours   the runs of all vertices end to end, by rising rank, as long as the list: the run of x has for each
+ *                  edge at x, in the order of the list, its other end, repeats included;
+ *     starts[x]    where the run of x starts in neighbours, n+1 entries: it ends where that of x+1 starts, and the last
+ *                  entry is the end of the last run.
+ * n is the length of parents, of an index that of starts less one, and every other table must have exactly the length
+ * that is named at the call. Work tables are room that the call needs and that the caller lends; what they hold before
+ * does not matter.
  *
  * ANSWERS. 0 (NIQASTUL_ACCEPTED), or the number of the refusal: of those that are listed at the call, the first that
  * applies. A refused call leaves every table bit for bit as it was; the exceptions are named at the calls. What is not
  * refused is accepted, and then every table that is not const is as the call says. Nothing is allocated or kept between
  * calls, and there is no other state: calls on different tables may run in different threads.
  *
- * WHERE THE FOREST MOVED. Adding and joining tell in a cell the lowest rank whose parent is now another than before the call, or
- * NIQASTUL_ABSENT if none moved; a weight alone that rises moves nothing. Every rank below the answer has its old parent, so that a
- * host which keeps a copy of the parents rereads them from there on and misses nothing. Parents only fall, an absent one counting as
- * the highest, so that after several calls in a row the lowest of their answers is the lowest rank that moved in all.
+ * WHERE THE FOREST MOVED. Adding and joining tell in a cell the lowest rank whose parent is now another than before the
+ * call, or NIQASTUL_ABSENT if none moved; a weight alone that rises moves nothing. Every rank below the answer has its
+ * old parent, so that a host which keeps a copy of the parents rereads them from there on and misses nothing. Parents
+ * only fall, an absent one counting as the highest, so that after several calls in a row the lowest of their answers is
+ * the lowest rank that moved in all.
  *
  * THE CALLER'S DUTY. The calls check every number and every length, and nothing else can be checked here:
  *   - each pointer leads to as many entries as its length says, readable, and writable where it is not const;
@@ -55,21 +58,25 @@ extern "C" {
 #define NIQASTUL_MAX_LIMIT 16000000 /* of the weight that a group may carry */
 #define NIQASTUL_MAX_BLOCKS 1000
 
-/* The answers, in the order in which they are decided: where several refusals apply, the one that stands first here is given. */
+/* The answers, in the order in which they are decided: where several refusals apply, the one that stands first here is
+ * given. */
 enum niqastul_answer {
     NIQASTUL_ACCEPTED = 0,
     NIQASTUL_BAD_COUNT = 1,       /* no vertex, or more than NIQASTUL_MAX_VERTICES */
-    NIQASTUL_WRONG_LENGTH = 2,    /* a table of the wrong length, an edge list of odd length, or no starts of an index, which then has no n */
+    NIQASTUL_WRONG_LENGTH = 2,    /* a table of the wrong length, an edge list of odd length, or no starts of an index,
+                                     which then has no n */
     NIQASTUL_BAD_FILE = 6,        /* bytes that are not a file of n records */
     NIQASTUL_BAD_ORDER = 3,       /* an entry of the order is n or more, or repeats */
     NIQASTUL_BAD_LIMIT = 8,       /* a limit or a number of blocks out of range */
     NIQASTUL_UNLIKE_COUNTS = 21,  /* two nets with different numbers of vertices */
-    NIQASTUL_DAMAGED = 30,        /* a net with a parent that is neither absent nor above its vertex, or with too large a total; starts of
-                                     an index that do not go from 0 up to the number of its neighbours without falling */
+    NIQASTUL_DAMAGED = 30,        /* a net with a parent that is neither absent nor above its vertex, or with too large
+                                     a total; starts of an index that do not go from 0 up to the number of its
+                                     neighbours without falling */
     NIQASTUL_BAD_VERTEX = 4,      /* an edge names n or more, or a rank asked for is n or more */
     NIQASTUL_LOOP = 5,            /* both ends of an edge are one vertex; 4 or 5 is that of the first faulty edge */
     NIQASTUL_BAD_PARENT = 7,      /* a record's parent is neither absent nor above its vertex */
-    NIQASTUL_FULL = 20,           /* a total above NIQASTUL_MAX_TOTAL, or a list of more than NIQASTUL_MAX_EDGES edges */
+    NIQASTUL_FULL = 20,           /* a total above NIQASTUL_MAX_TOTAL, or a list of more than NIQASTUL_MAX_EDGES
+                                     edges */
     NIQASTUL_TOO_HEAVY = 22,      /* a weight above the limit, so that no cutting can hold it */
     NIQASTUL_OTHER_EDGES = 23,    /* edges that have other parents or weights than the net */
     NIQASTUL_RELATED = 31         /* the two ranks are equal, or one stands above the other */
@@ -115,8 +122,8 @@ uint32_t niqastul_relabel(const uint32_t *order, size_t order_length,
 uint32_t niqastul_start(uint32_t *parents, size_t parents_length,
                         uint32_t *weights, size_t weights_length);
 
-/* ADD edges to a net, as a whole or not at all. The parents become those of the elimination game on the links of the old
- * forest and the new edges; each edge raises the weight of its lower end by 1.
+/* ADD edges to a net, as a whole or not at all. The parents become those of the elimination game on the links of the
+ * old forest and the new edges; each edge raises the weight of its lower end by 1.
  *   reads   edges   [m]        in ranks
  *   writes  parents [n], weights [n]
  *           ends [n], jump [n], lower [niqastul_add_lower(n, m)]      work; end as zeros
@@ -136,14 +143,14 @@ static inline size_t niqastul_add_lower(size_t parents_length, size_t edges_leng
     return parents_length + edges_length / 2;
 }
 
-/* JOIN a second net, which stays as it is, into a first. The parents become those of the elimination game on the links of
- * both, which are those of the edges of both together; the weights are summed.
+/* JOIN a second net, which stays as it is, into a first. The parents become those of the elimination game on the links
+ * of both, which are those of the edges of both together; the weights are summed.
  *   reads   other_parents [n], other_weights [n]
  *   writes  parents [n], weights [n]
  *           ends [n], jump [n], lower [niqastul_join_lower(n, the other net's n)]     work; end as zeros
  *           *moved             where the forest moved, or NIQASTUL_ABSENT
- *   refused 1 (of either net), 2 (each net's weights against its own parents, lower against the sum of both vertex counts, also
- *           where they differ: 2 comes before 21), 21, 30 (of either net), 20 (both totals together) */
+ *   refused 1 (of either net), 2 (each net's weights against its own parents, lower against the sum of both vertex
+ *           counts, also where they differ: 2 comes before 21), 21, 30 (of either net), 20 (both totals together) */
 uint32_t niqastul_join(uint32_t *parents, size_t parents_length,
                        uint32_t *weights, size_t weights_length,
                        const uint32_t *other_parents, size_t other_parents_length,
@@ -180,13 +187,14 @@ static inline size_t niqastul_bytes(size_t parents_length)
 }
 
 /* DIVIDE a net into groups that carry at most a limit, 1 to NIQASTUL_MAX_LIMIT, and pack the groups into blocks, 1 to
- * NIQASTUL_MAX_BLOCKS. A vertex carries its weight and what its children carry that are not cut off; while that is above the
- * limit, the child that carries most is cut off, of equals the lowest. A group is what stays connected, its top its highest
- * vertex. Groups go by rising top into the block with the least load so far, of equals the lowest. No block then has more than
- * (total + (blocks - 1) * limit) / blocks.
+ * NIQASTUL_MAX_BLOCKS. A vertex carries its weight and what its children carry that are not cut off; while that is
+ * above the limit, the child that carries most is cut off, of equals the lowest. A group is what stays connected, its
+ * top its highest vertex. Groups go by rising top into the block with the least load so far, of equals the lowest. No
+ * block then has more than (total + (blocks - 1) * limit) / blocks.
  *   reads   parents [n], weights [n]
  *   writes  carried [n]        what each vertex carries; at a top, the weight of its group
- *           top     [n]        the top of each vertex's group; a vertex that is its own top and has a parent is cut off from it
+ *           top     [n]        the top of each vertex's group; a vertex that is its own top and has a parent is cut off
+ *                              from it
  *           block   [n]        the block of each vertex, from 0
  *           block_loads [blocks]      the load of each block
  *   refused 1, 2 (block_loads against the number of blocks as given), 8, 30, 22 */
@@ -199,27 +207,29 @@ uint32_t niqastul_divide(const uint32_t *parents, size_t parents_length,
                          uint32_t *block, size_t block_length,
                          uint32_t *block_loads, size_t block_loads_length);
 
-/* REPORT what a division costs: divides a net as niqastul_divide does and, given the net's own edges in any order, writes what the
- * blocks have to tell each other. An edge belongs to the block of its lower end. The blocks of a vertex are counted along its edges, in
- * the order of the list: up to and with the first edge by which all blocks are met, or to the last edge if they never are. In another
- * order a vertex may take more or fewer edges; edge_blocks goes along with the list, and everything else stays the same.
+/* REPORT what a division costs: divides a net as niqastul_divide does and, given the net's own edges in any order,
+ * writes what the blocks have to tell each other. An edge belongs to the block of its lower end. The blocks of a vertex
+ * are counted along its edges, in the order of the list: up to and with the first edge by which all blocks are met, or
+ * to the last edge if they never are. In another order a vertex may take more or fewer edges; edge_blocks goes along
+ * with the list, and everything else stays the same.
  *   reads   parents [n], weights [n]
  *           edges   [m]        in ranks
  *   writes  carried [n], top [n], block [n], block_loads [blocks]      as niqastul_divide
  *           edge_blocks [m / 2]       the block of each edge
- *           reach   [n]        the number of vertices above a vertex that have an edge to it or to a vertex that it is above
+ *           reach   [n]        the number of vertices above a vertex that have an edge to it or to a vertex that it is
+ *                              above
  *           block_count [n]    the number of different blocks among the edges of a vertex
  *           edges_taken [n]    how many of its edges that count took, 0 if it has none
  *           compared_parents [n], compared_weights [n]       end holding the net of the edges
  *           ends [n], jump [n], lower [niqastul_add_lower(n, m)]      work; end as zeros
  *           *bound             the sum of the reaches of the vertices that are cut off
  *           *volume            the sum of (block_count - 1) over the vertices with an edge, never above the bound
- *           *quotient, *remainder     the even share: the total of the weights divided by blocks. quotient * blocks + remainder is
- *                              the total, and remainder is below blocks
- *   refused 1, 2 (block_loads against the number of blocks as given), 8, 30 (of the net), 4 or 5 at the first faulty edge,
- *           20 (more than NIQASTUL_MAX_EDGES edges), 22, 23
- * The exception: refused with 23, it leaves the net of the edges in compared_parents and compared_weights, and zeros in the work
- * tables. */
+ *           *quotient, *remainder     the even share: the total of the weights divided by blocks. quotient * blocks +
+ *                              remainder is the total, and remainder is below blocks
+ *   refused 1, 2 (block_loads against the number of blocks as given), 8, 30 (of the net), 4 or 5 at the first faulty
+ *           edge, 20 (more than NIQASTUL_MAX_EDGES edges), 22, 23
+ * The exception: refused with 23, it leaves the net of the edges in compared_parents and compared_weights, and zeros in
+ * the work tables. */
 uint32_t niqastul_report(const uint32_t *parents, size_t parents_length,
                          const uint32_t *weights, size_t weights_length,
                          uint32_t limit,
@@ -243,9 +253,10 @@ uint32_t niqastul_report(const uint32_t *parents, size_t parents_length,
                          uint32_t *quotient,
                          uint32_t *remainder);
 
-/* SEPARATE two vertices of which neither stands above the other: lists the vertices that stand above both, given the net's own edges in
- * any order. A vertex stands above another if it is reached from it by one or more parents. Every chain of edges from one to the other
- * passes a vertex of the separator; with a count of 0, which is that of vertices in separate trees, there is no chain.
+/* SEPARATE two vertices of which neither stands above the other: lists the vertices that stand above both, given the
+ * net's own edges in any order. A vertex stands above another if it is reached from it by one or more parents. Every
+ * chain of edges from one to the other passes a vertex of the separator; with a count of 0, which is that of vertices
+ * in separate trees, there is no chain.
  *   reads   parents [n], weights [n]
  *           one, other         ranks
  *           edges   [m]        in ranks
@@ -254,10 +265,10 @@ uint32_t niqastul_report(const uint32_t *parents, size_t parents_length,
  *           ends [n], jump [n], lower [niqastul_add_lower(n, m)]      work; end as zeros
  *           *count             how many vertices stand above both
  *           *lowest            the lowest of them, or NIQASTUL_ABSENT if there are none
- *   refused 1, 2, 30 (of the net), 4 (one or other is n or more, before any edge is looked at), 4 or 5 at the first faulty edge,
- *           20 (more than NIQASTUL_MAX_EDGES edges), 23, 31
- * The exception: refused with 23 or 31, it leaves the net of the edges in compared_parents and compared_weights, and zeros in the work
- * tables. */
+ *   refused 1, 2, 30 (of the net), 4 (one or other is n or more, before any edge is looked at), 4 or 5 at the first
+ *           faulty edge, 20 (more than NIQASTUL_MAX_EDGES edges), 23, 31
+ * The exception: refused with 23 or 31, it leaves the net of the edges in compared_parents and compared_weights, and
+ * zeros in the work tables. */
 uint32_t niqastul_separate(const uint32_t *parents, size_t parents_length,
                            const uint32_t *weights, size_t weights_length,
                            uint32_t one,
@@ -272,25 +283,26 @@ uint32_t niqastul_separate(const uint32_t *parents, size_t parents_length,
                            uint32_t *count,
                            uint32_t *lowest);
 
-/* INDEX an edge list, given in two parts, an old list and an added one: the index is that of the old edges followed by the added ones,
- * as one list would give it. Each edge stands in the runs of both its ends. No index of the old edges is needed, and what the two
- * tables held before does not matter.
+/* INDEX an edge list, given in two parts, an old list and an added one: the index is that of the old edges followed by
+ * the added ones, as one list would give it. Each edge stands in the runs of both its ends. No index of the old edges
+ * is needed, and what the two tables held before does not matter.
  *   reads   old_edges [m], added [k]      in ranks; either may be empty
  *   writes  starts [n+1], neighbours [m+k]
- *   refused 2 (no starts), 1, 2, 4 or 5 at the first faulty edge, the old before the added, 20 (more than NIQASTUL_MAX_EDGES
- *           edges, old and added together) */
+ *   refused 2 (no starts), 1, 2, 4 or 5 at the first faulty edge, the old before the added, 20 (more than
+ *           NIQASTUL_MAX_EDGES edges, old and added together) */
 uint32_t niqastul_index(const uint32_t *old_edges, size_t old_edges_length,
                         const uint32_t *added, size_t added_length,
                         uint32_t *starts, size_t starts_length,
                         uint32_t *neighbours, size_t neighbours_length);
 
-/* QUERY an index for the run of a rank: neighbours[*first] and what follows, *count entries in all. It tests all starts, and reads no
- * neighbour.
+/* QUERY an index for the run of a rank: neighbours[*first] and what follows, *count entries in all. It tests all
+ * starts, and reads no neighbour.
  *   reads   starts [n+1]
  *           neighbours         of any length
  *   writes  *first             where the run starts
  *           *count             how many neighbours it has
- *   refused 2 (no starts), 1, 30, 4 (a rank of n or more). The exception: refused, it leaves 0 in both cells, an empty part. */
+ *   refused 2 (no starts), 1, 30, 4 (a rank of n or more). The exception: refused, it leaves 0 in both cells, an empty
+ *           part. */
 uint32_t niqastul_query(const uint32_t *starts, size_t starts_length,
                         const uint32_t *neighbours, size_t neighbours_length,
                         uint32_t rank,
@@ -302,24 +314,28 @@ uint32_t niqastul_query(const uint32_t *starts, size_t starts_length,
  * compiled anew and not edited. Nor can it exchange two tables: a struct of another kind does not compile.
  *
  * MAKING. niqastul_X_size says how many bytes the tables of a struct need together, and niqastul_X_in lays them into
- * memory of that size, end to end in the order of the fields, so that the first one begins where the memory does. The
- * memory is the caller's: any that is aligned for uint32_t, as that of malloc is, whatever it holds. It is not tested
- * for a null pointer. The fields may also be set by hand, to tables that lie anywhere.
+ * memory of that size, end to end in the order of the fields, so that the first one begins where the memory does:
+ *     struct niqastul_net net = niqastul_net_in(malloc(niqastul_net_size(n)), n);
+ * The memory is the caller's: any that is aligned for uint32_t, as that of malloc is, whatever it holds. It is not
+ * tested for a null pointer. The fields may also be set by hand, to tables that lie anywhere.
  *
  * CALLING. niqastul_X_CALL passes the tables on to niqastul_CALL, in the order of its parameters, and returns its
  * answer. What is said of niqastul_CALL holds. Structs are passed by value: a call writes tables, never a field of
  * them. Structs that do not fit each other are refused (2), such as a division of more vertices than the net has. */
 
+/* An elimination order. */
 struct niqastul_order {
     const uint32_t *list; /* the vertex of each rank */
     size_t length;        /* n */
 };
 
+/* An edge list. */
 struct niqastul_edges {
     const uint32_t *list; /* two vertices to an edge */
     size_t length;        /* the number of entries, twice that of edges */
 };
 
+/* A net. */
 struct niqastul_net {
     uint32_t *parents; /* [vertices] */
     uint32_t *weights; /* [vertices] */
@@ -333,6 +349,7 @@ struct niqastul_work {
     size_t length; /* the number of entries */
 };
 
+/* What niqastul_divide writes. */
 struct niqastul_division {
     uint32_t *carried;     /* [vertices] */
     uint32_t *top;         /* [vertices] */
@@ -342,6 +359,7 @@ struct niqastul_division {
     uint32_t blocks; /* the number of blocks to divide into */
 };
 
+/* What niqastul_report writes. */
 struct niqastul_report_tables {
     struct niqastul_division division;
     uint32_t *edge_blocks;        /* [edges] */
@@ -352,22 +370,24 @@ struct niqastul_report_tables {
     size_t edges;                 /* the number of edges */
 };
 
-/* What a report answers in cells. */
+/* What it answers in cells. */
 struct niqastul_totals {
     uint64_t bound, volume;
     uint32_t quotient, remainder;
 };
 
+/* What niqastul_separate writes. */
 struct niqastul_separate_tables {
     uint32_t *separator;          /* [compared.vertices] */
     struct niqastul_net compared; /* the net of the edges */
 };
 
-/* What a separation answers in cells. */
+/* What it answers in cells. */
 struct niqastul_separator {
     uint32_t count, lowest;
 };
 
+/* An index. */
 struct niqastul_index_tables {
     uint32_t *starts;     /* [vertices + 1] */
     uint32_t *neighbours; /* [length] */
@@ -375,7 +395,7 @@ struct niqastul_index_tables {
     size_t length;        /* the number of entries of all runs */
 };
 
-/* What a query answers in cells: where a run begins, and how many neighbours it has. */
+/* What niqastul_query answers in cells: where a run begins, and how many neighbours it has. */
 struct niqastul_run {
     uint64_t first, count;
 };
