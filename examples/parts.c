@@ -110,7 +110,7 @@ int main(int count, char **files)
     }
     size_t m, vertices, total;
     uint32_t *vertex = numbers(files[1], 4, 0, 1, &n, &vertices);
-    uint32_t *list = numbers(files[2], 8, process, processes, &m, &total), *ranks = room(4 * m);
+    uint32_t *list = numbers(files[2], 4 * NIQASTUL_STRIDE, process, processes, &m, &total), *ranks = room(4 * m);
     struct niqastul_order order = {vertex, n};
     struct niqastul_edges numbered = {list, m}, edges = {ranks, m};
     void *memory = room(niqastul_net_size(n));

@@ -52,6 +52,7 @@ extern "C" {
 #define NIQASTUL_VERSION_PATCH 0
 
 #define NIQASTUL_ABSENT UINT32_C(0xFFFFFFFF) /* for no rank: no parent, none that moved, none in a separator */
+#define NIQASTUL_STRIDE 2 /* the numbers to an edge in a list: its ends */
 #define NIQASTUL_MAX_VERTICES 1000000
 #define NIQASTUL_MAX_EDGES 16000000 /* of a list that is added, given as a net's own or indexed */
 #define NIQASTUL_MAX_TOTAL 16000000 /* of the weights of a net */
@@ -140,7 +141,7 @@ uint32_t niqastul_add(uint32_t *parents, size_t parents_length,
 
 static inline size_t niqastul_add_lower(size_t parents_length, size_t edges_length)
 {
-    return parents_length + edges_length / 2;
+    return parents_length + edges_length / NIQASTUL_STRIDE;
 }
 
 /* JOIN a second net, which stays as it is, into a first. The parents become those of the elimination game on the links
@@ -331,8 +332,8 @@ struct niqastul_order {
 
 /* An edge list. */
 struct niqastul_edges {
-    const uint32_t *list; /* two vertices to an edge */
-    size_t length;        /* the number of entries, twice that of edges */
+    const uint32_t *list; /* NIQASTUL_STRIDE numbers to an edge */
+    size_t length;        /* of the list, not the number of edges */
 };
 
 /* A net. */
@@ -453,15 +454,15 @@ static inline struct niqastul_division niqastul_division_in(void *memory, struct
 /* The tables of a report on a net with these edges, divided into so many blocks. */
 static inline size_t niqastul_report_size(struct niqastul_net net, uint32_t blocks, struct niqastul_edges edges)
 {
-    return niqastul_division_size(net, blocks) + (edges.length / 2 + 3 * net.vertices) * sizeof(uint32_t) +
-           niqastul_net_size(net.vertices);
+    size_t entries = edges.length / NIQASTUL_STRIDE + 3 * net.vertices;
+    return niqastul_division_size(net, blocks) + entries * sizeof(uint32_t) + niqastul_net_size(net.vertices);
 }
 
 static inline struct niqastul_report_tables niqastul_report_in(void *memory, struct niqastul_net net, uint32_t blocks,
                                                                struct niqastul_edges edges)
 {
     struct niqastul_report_tables its;
-    its.edges = edges.length / 2;
+    its.edges = edges.length / NIQASTUL_STRIDE;
     its.division = niqastul_division_in(memory, net, blocks);
     its.edge_blocks = its.division.block_loads + blocks;
     its.reach = its.edge_blocks + its.edges;

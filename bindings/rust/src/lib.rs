@@ -28,6 +28,9 @@ pub use index::Index;
 /// The parent of a vertex that has none.
 pub const ABSENT: u32 = 0xFFFF_FFFF;
 
+/// The numbers to an edge in a list: its ends.
+pub const STRIDE: usize = 2;
+
 /// The largest number of vertices of a net or an index.
 pub const MAX_VERTICES: usize = 1_000_000;
 
@@ -152,7 +155,7 @@ impl Net {
     /// Adds edges, two ranks to an edge, as a whole or not at all. Answers the lowest rank whose parent is now another: who keeps a
     /// copy of the parents rereads them from there on. `None` if none moved; a weight alone that rises moves nothing.
     pub fn add(&mut self, edges: &[u32]) -> Result<Option<u32>, Refusal> {
-        self.work.resize(self.parents.len(), edges.len() / 2);
+        self.work.resize(self.parents.len(), edges.len() / STRIDE);
         tables::add(&mut self.parents, &mut self.weights, edges, &mut self.work)
     }
 
@@ -201,9 +204,9 @@ impl Net {
         let vertices = self.parents.len();
         let zeros = || vec![0; vertices];
         let mut its = Division::sized(vertices, blocks);
-        let (mut edge_blocks, mut reach) = (vec![0; edges.len() / 2], zeros());
+        let (mut edge_blocks, mut reach) = (vec![0; edges.len() / STRIDE], zeros());
         let (mut block_count, mut edges_taken) = (zeros(), zeros());
-        self.work.resize(vertices, edges.len() / 2);
+        self.work.resize(vertices, edges.len() / STRIDE);
         let (bound, volume, share) = tables::report(
             &self.parents,
             &self.weights,
@@ -241,7 +244,7 @@ impl Net {
         let vertices = self.parents.len();
         let zeros = || vec![0; vertices];
         let mut separator = zeros();
-        self.work.resize(vertices, edges.len() / 2);
+        self.work.resize(vertices, edges.len() / STRIDE);
         let (count, lowest) = tables::separate(
             &self.parents,
             &self.weights,

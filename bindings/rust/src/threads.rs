@@ -1,7 +1,7 @@
 //! Adding a long list in several threads: each grows the net of a part of the list, and the library joins them. The law of joined
 //! forests has it that the tables are those of one call.
 
-use crate::{Net, Refusal};
+use crate::{Net, Refusal, STRIDE};
 
 impl Net {
     /// Adds edges as [`Net::add`] does, in up to so many threads: the same answer and the same tables, or the same refusal and the net
@@ -11,7 +11,7 @@ impl Net {
     /// Panics if the system cannot start a thread; the net is then as it was.
     pub fn add_in_threads(&mut self, edges: &[u32], threads: usize) -> Result<Option<u32>, Refusal> {
         // no part has fewer edges than the net has vertices
-        let threads = threads.min(edges.len() / 2 / self.parents.len().max(1));
+        let threads = threads.min(edges.len() / STRIDE / self.parents.len().max(1));
         if threads < 2 {
             return self.add(edges);
         }
@@ -36,7 +36,7 @@ fn grow(mut net: Net, edges: &[u32], threads: usize) -> Result<(Net, Option<u32>
         return Ok((net, moved));
     }
     let others = threads / 2;
-    let (left, right) = edges.split_at(edges.len() - edges.len() / 2 / threads * others * 2);
+    let (left, right) = edges.split_at(edges.len() - edges.len() / STRIDE / threads * others * STRIDE);
     let empty = Net::new(net.parents.len())?;
     let (left, right) = std::thread::scope(|scope| {
         let right = scope.spawn(|| grow(empty, right, others));
