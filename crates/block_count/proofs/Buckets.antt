@@ -24,7 +24,7 @@ part-length f t l h = length-take-le (t - f) (drop f l) (simp length-drop (omega
 part-entry : (f t i : ℕ) (l : List ℕ) → i < t - f → getD (part f t l) i 0 ≡ getD l (f + i) 0
 part-entry f t i l h = getD-take (t - f) (drop f l) i 0 h ∙ getD-drop f l i 0
 
--- the vertices below y are counted
+-- the vertices below y are counted; of the others the table of edges that are taken still tells how many lead up
 pub record CountTurn (k : ℕ) (ends lower upward block counts taken pending stamps : List ℕ) (at y : ℕ) : Type 0 where
   pub within : y ≤ length ends
   pub start : at ≡ begin ends y
@@ -33,19 +33,21 @@ pub record CountTurn (k : ℕ) (ends lower upward block counts taken pending sta
   pub pending-long : length pending ≡ length ends
   pub all : length stamps ≡ k
   pub fresh : Fresh stamps (y + 1)
+  pub ahead : (x : ℕ) → y ≤ x → getD taken x 0 ≡ getD upward x 0
   pub each : (x : ℕ) → x < y → CountedAt k block x (getD upward x 0) (bucketOf ends lower x) (getD counts x 0) (getD taken x 0) (getD pending x 0)
 
-module _ {ends lower upward block : List ℕ} {k : ℕ} {counts₀ taken₀ pending₀ stamps₀ : List ℕ} (b : Bucketed ends lower upward block k counts₀ taken₀ pending₀ stamps₀) where
-  pub turn-start : CountTurn k ends lower upward block counts₀ taken₀ pending₀ stamps₀ 0 0
+module _ {ends lower upward block : List ℕ} {k : ℕ} {counts₀ pending₀ stamps₀ : List ℕ} (b : Bucketed ends lower upward block k counts₀ pending₀ stamps₀) where
+  pub turn-start : CountTurn k ends lower upward block counts₀ upward pending₀ stamps₀ 0 0
   unfolding begin
   turn-start = record {
     within = omega arith;
     start = refl;
     counts-long = b .counts-long;
-    taken-long = b .taken-long;
+    taken-long = b .counted;
     pending-long = b .pending-long;
     all = b .all;
     fresh = b .fresh;
+    ahead = λ x h. refl;
     each = λ x h. absurd (omega arith);
   }
 
@@ -73,7 +75,16 @@ module _ {ends lower upward block : List ℕ} {k : ℕ} {counts₀ taken₀ pend
       fresh = t .fresh;
     }
 
-    module _ {stamps′ : List ℕ} {r : Met} (s : Counts k block y (getD upward y 0) (part at end lower) stamps′ r) where
+    up-is : getD taken y 0 ≡ getD upward y 0
+    up-is = t .ahead y (omega arith)
+
+    pub turn-up : getD taken y 0 ≤ maxEdges
+    turn-up = omega (arith, up-is, b .few-upward y h)
+
+    module _ {stamps′ : List ℕ} {r : Met} (counts-so : Counts k block y (getD taken y 0) (part at end lower) stamps′ r) where
+      s : Counts k block y (getD upward y 0) (part at end lower) stamps′ r
+      s = subst (λ (u : ℕ). Counts k block y u (part at end lower) stamps′ r) up-is counts-so
+
       pub turn-read : r .read ≤ maxEdges
       turn-read = omega (arith, s .found .within, part-length at end lower turn-room, turn-short)
 
@@ -88,7 +99,7 @@ module _ {ends lower upward block : List ℕ} {k : ℕ} {counts₀ taken₀ pend
             so-known = f ∙ ap (λ (m : ℕ). knownAt k (getD upward y 0) m (r .count) (r .read)) (sym (part-length at end lower turn-room));
           })
 
-      pub turn-step : length stamps′ ≡ length stamps → {u v : ℕ} → known u v ≡ knownAt k (getD upward y 0) (end - at) (r .count) (r .read)
+      pub turn-step : length stamps′ ≡ length stamps → {u v : ℕ} → known u v ≡ knownAt k (getD taken y 0) (end - at) (r .count) (r .read)
           → CountTurn k ends lower upward block (set counts y (r .count)) (set taken y u) (set pending y v) stamps′ end (y + 1)
       unfolding begin
       turn-step l {u} {v} f = record {
@@ -99,16 +110,20 @@ module _ {ends lower upward block : List ℕ} {k : ℕ} {counts₀ taken₀ pend
         pending-long = length-set pending y v ∙ t .pending-long;
         all = l ∙ t .all;
         fresh = record { older = λ j. omega (arith, s .known j) };
+        ahead = λ x i. getD-set-other taken y x u 0 (past x i) ∙ t .ahead x (omega arith);
         each = λ x i. by-cases (ℕ-discrete x y) (here x) (other x i);
       }
         where
           next : getD ends y 0 ≡ begin ends (y + 1)
           next = rw add-one refl
 
+          past : (x : ℕ) → y + 1 ≤ x → x ≢ y
+          past x i d = omega arith
+
           here : (x : ℕ) → x ≡ y → CountedAt k block x (getD upward x 0) (bucketOf ends lower x) (getD (set counts y (r .count)) x 0) (getD (set taken y u) x 0) (getD (set pending y v) x 0)
           here x d =
               rw (d, getD-set-same counts y (r .count) 0 (omega (arith, t .counts-long)), getD-set-same taken y u 0 (omega (arith, t .taken-long)), getD-set-same pending y v 0 (omega (arith, t .pending-long)))
-              (counted-here f)
+              (counted-here (f ∙ ap (λ (m : ℕ). knownAt k m (end - at) (r .count) (r .read)) up-is))
 
           other : (x : ℕ) → x < y + 1 → x ≢ y → CountedAt k block x (getD upward x 0) (bucketOf ends lower x) (getD (set counts y (r .count)) x 0) (getD (set taken y u) x 0) (getD (set pending y v) x 0)
           other x i d =

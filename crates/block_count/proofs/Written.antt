@@ -5,7 +5,6 @@ use mathlib.Core.Logic.{by-cases}
 use mathlib.Core.Bool.{true, false}
 use mathlib.Core.List.{List, [], _∷_}
 use Prim.Native.Nat.{ℕ, zero, suc, _+_, _-_, _≤_, _<_}
-use native.Mathlib.Numerals.{add-one}
 use native.Mathlib.Decide.{decLt}
 use native.Mathlib.Omega.{arith}
 use lib.ListN.{length, length-map, getD, take, drop, replicate, length-replicate, getD-replicate, List·getD-eq-default}
@@ -14,9 +13,9 @@ use Rattle.game.proofs.Tables.{tabulate-length, tabulate-entry, tabulate-unique
 use Rattle.bucket.specs.Ends.{endOf}
 use Rattle.bucket.specs.Filed.{lowerEnds}
 use Rattle.reach_slots.specs.Given.{lowerCount, lowerCounts}
-use Rattle.bucket.proofs.Reading.{below, filed-consecutive, filed-holds}
+use Rattle.bucket.proofs.Reading.{filed-consecutive, filed-inside}
 use Rattle.sorting.proofs.Counts.{count-le}
-use Rattle.sorting.proofs.Keys.{key-le, below-zero, below-le}
+use Rattle.sorting.proofs.Keys.{key-le, below-le}
 use Rattle.sorting.proofs.Values.{values-length}
 use Rattle.refusal.specs.DivisionLimits.{maxBlocks}
 use Rattle.block_count.specs.BlockCount.{blocksAt, blockCount}
@@ -37,19 +36,9 @@ zeros-front (suc m) (suc n) h = ap (λ (l : List ℕ). 0 ∷ l) (zeros-front m n
 fresh-zeros : (k : ℕ) → Fresh (replicate k 0) 1
 fresh-zeros k = record { older = λ j. by-cases (decLt j k) (λ h. omega (arith, getD-replicate {A = ℕ} k j 0 0 h)) (λ (h : j < k → ⊥). omega (arith, List·getD-eq-default {A = ℕ} (replicate k 0) 0 {n = j} (omega (arith, length-replicate {A = ℕ} k 0)))) }
 
-module _ {es : List Edge} {upward block : List ℕ} {k : ℕ} {ends lower counts taken pending : List ℕ} (c : Countable es upward block k ends lower counts taken pending) where
+module _ {es : List Edge} {upward block : List ℕ} {k : ℕ} {ends lower counts pending : List ℕ} (c : Countable es upward block k ends lower counts pending) where
   long : length ends ≡ length block
   long = c .filed .sorted .long
-
-  -- every place up to the end of y's bucket holds a vertex
-  inside : (y i : ℕ) → y < length block → i < below (y + 1) es → getD lower i 0 < length block
-  inside y i h l = earlier (y + 1) (omega arith) l
-    where
-      earlier : (y : ℕ) → y ≤ length block → i < below y es → getD lower i 0 < length block
-      earlier zero h l = absurd (omega (arith, below-zero (endOf true) es))
-      earlier (suc y) h l =
-          by-cases (decLt i (below y es)) (earlier y (omega arith))
-          (λ (o : i < below y es → ⊥). omega (arith, filed-holds (c .filed) y i (omega arith) (omega arith) (rw (← add-one y) at l) .0))
 
   upward-long : length upward ≡ length ends
   unfolding lowerCounts
@@ -67,17 +56,16 @@ module _ {es : List Edge} {upward block : List ℕ} {k : ℕ} {ends lower counts
   few-lower y = omega (arith, values-length (endOf true) (endOf false) es y, key-le (endOf true) es y)
 
   -- the count can begin
-  pub count-ready : {all : ℕ} {stamps : List ℕ} → all ≡ k → stamps ≡ take (all - 0) (drop 0 (replicate maxBlocks 0)) → Bucketed ends lower upward block k counts taken pending stamps
+  pub count-ready : {all : ℕ} {stamps : List ℕ} → all ≡ k → stamps ≡ take (all - 0) (drop 0 (replicate maxBlocks 0)) → Bucketed ends lower upward block k counts pending stamps
   count-ready {all} {stamps} e q = record {
     buckets = filed-consecutive (c .filed) (c .few);
-    neighbours = λ y i h l. omega (arith, inside y i (omega (arith, long)) (omega (arith, c .filed .sorted .end-at y (omega (arith, long)))), long);
+    neighbours = λ y i h l. omega (arith, filed-inside (c .filed) (y + 1) i (omega (arith, long)) (omega (arith, c .filed .sorted .end-at y (omega (arith, long)))), long);
     short = λ y h. omega (arith, c .filed .sorted .end-at y (omega (arith, long)), below-le (endOf true) (y + 1) es, c .few-edges);
     counted = upward-long;
     few-upward = λ y h. omega (arith, upward-is y (omega (arith, long)), few-upward y, c .few-edges);
     blocked = sym long;
     blocks = λ x h. c .blocks x (omega (arith, long));
     counts-long = c .counts-long ∙ sym long;
-    taken-long = c .taken-long ∙ sym long;
     pending-long = c .pending-long ∙ sym long;
     all = ap length s ∙ length-replicate {A = ℕ} k 0;
     small = c .small;
@@ -114,19 +102,19 @@ module _ {es : List Edge} {upward block : List ℕ} {k : ℕ} {ends lower counts
           few-lower y,
         )
 
-    pub sweep-ready : length taken′ ≡ length taken → length pending′ ≡ length pending → Sweepable es block pending′ taken′
+    pub sweep-ready : length taken′ ≡ length upward → length pending′ ≡ length pending → Sweepable es block pending′ taken′
     sweep-ready l m = record {
       few = c .few;
       proper = c .filed .proper;
       pending-long = m ∙ c .pending-long;
-      taken-long = l ∙ c .taken-long;
+      taken-long = l ∙ upward-long ∙ long;
       small = λ y h. omega (arith, takes y h, few-taken y h, c .few-edges);
     }
 
-    pub all-written : length counts′ ≡ length counts → {taken″ : List ℕ} → length taken″ ≡ length taken → Swept es block pending′ taken′ taken″ → Writes es block k counts′ taken″
+    pub all-written : length counts′ ≡ length counts → {taken″ : List ℕ} → length taken″ ≡ length upward → Swept es block pending′ taken′ taken″ → Writes es block k counts′ taken″
     all-written l {taken″} m s = record {
       counted =
           tabulate-unique (length block) (blockCount k block es) counts′ 0 (l ∙ c .counts-long)
           (λ y h. counted-blocks es (c .filed .proper) block y k (λ u l. c .blocks u (omega arith)) (at y h));
-      took = tabulate-unique (length block) (edgesTaken k block es) taken″ 0 (m ∙ c .taken-long) (λ y h. s .each y h ∙ takes y h);
+      took = tabulate-unique (length block) (edgesTaken k block es) taken″ 0 (m ∙ upward-long ∙ long) (λ y h. s .each y h ∙ takes y h);
     }

@@ -73,7 +73,7 @@ pub record CountedAt (k : ℕ) (block : List ℕ) (y up : ℕ) (lower : List ℕ
   pub so-known : known taken pending ≡ knownAt k up (length lower) count read
 
 -- What counting is given: buckets of lower neighbours, how many edges lead up from each vertex and its block, and a stamp for each block.
-pub record Bucketed (ends lower upward block : List ℕ) (k : ℕ) (counts taken pending stamps : List ℕ) : Type 0 where
+pub record Bucketed (ends lower upward block : List ℕ) (k : ℕ) (counts pending stamps : List ℕ) : Type 0 where
   pub buckets : Consecutive ends lower
   pub neighbours : (y i : ℕ) → y < length ends → i < getD ends y 0 → getD lower i 0 < length ends
   pub short : (y : ℕ) → y < length ends → getD ends y 0 ≤ maxEdges
@@ -82,7 +82,6 @@ pub record Bucketed (ends lower upward block : List ℕ) (k : ℕ) (counts taken
   pub blocked : length block ≡ length ends
   pub blocks : (x : ℕ) → x < length ends → getD block x 0 < k
   pub counts-long : length counts ≡ length ends
-  pub taken-long : length taken ≡ length ends
   pub pending-long : length pending ≡ length ends
   pub all : length stamps ≡ k
   pub small : k ≤ maxBlocks
@@ -94,7 +93,7 @@ pub record Counted (k : ℕ) (ends lower upward block counts taken pending : Lis
 
 -- What writing the block counts is given: the edges of a graph, filed by their upper end and counted by their lower, one of k blocks for
 -- each vertex, and tables that fit.
-pub record Countable (es : List Edge) (upward block : List ℕ) (k : ℕ) (ends lower counts taken pending : List ℕ) : Type 0 where
+pub record Countable (es : List Edge) (upward block : List ℕ) (k : ℕ) (ends lower counts pending : List ℕ) : Type 0 where
   pub few : length block ≤ maxVertices
   pub few-edges : length es ≤ maxEdges
   pub filed : Filed (length block) es ends lower
@@ -103,7 +102,6 @@ pub record Countable (es : List Edge) (upward block : List ℕ) (k : ℕ) (ends 
   pub small : k ≤ maxBlocks
   pub blocks : (x : ℕ) → x < length block → getD block x 0 < k
   pub counts-long : length counts ≡ length block
-  pub taken-long : length taken ≡ length block
   pub pending-long : length pending ≡ length block
 
 -- and what it leaves

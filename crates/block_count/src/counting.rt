@@ -65,9 +65,9 @@ fn known_at(up: u32, size: usize, count: u32, read: usize, all: u32) -> Known
     Known { taken: 0, pending }
 }
 
-// Counts bucket after bucket.
+// Counts bucket after bucket. `edges_taken` comes with the number of edges that lead up from each vertex; each is read before it is
+// written over.
 pub fn count_buckets(
-    upward: &[u32],
     block: &[u32],
     all: u32,
     ends: &[u32],
@@ -77,14 +77,14 @@ pub fn count_buckets(
     pending: &mut [u32],
     stamps: &mut [u32],
 )
-    requires { ⌜ Bucketed (now ends) (now lower) (now upward) (now block) all (now «block_count») (now «edges_taken») (now pending) (now stamps) ⌝ }
-    ensures { λ _. ⌜ Counted all (now (ends .entry)) (now (lower .entry)) (now (upward .entry)) (now (block .entry)) (now («block_count» .exit)) (now («edges_taken» .exit)) (now (pending .exit)) ⌝ }
+    requires { ⌜ Bucketed (now ends) (now lower) (now «edges_taken») (now block) all (now «block_count») (now pending) (now stamps) ⌝ }
+    ensures { λ _. ⌜ Counted all (now (ends .entry)) (now (lower .entry)) (now («edges_taken» .entry)) (now (block .entry)) (now («block_count» .exit)) (now («edges_taken» .exit)) (now (pending .exit)) ⌝ }
 {
     let mut at = 0;
     let mut y = 0;
     while y < ends.len() {
         let end = wide(ends[y]);
-        let up = upward[y];
+        let up = edges_taken[y];
         let met = count_at(y as u32, up, &lower[at..end], block, all, stamps);
         block_count[y] = met.count;
         let known = known_at(up, end - at, met.count, met.read, all);

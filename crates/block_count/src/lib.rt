@@ -15,9 +15,8 @@ ghost use Rattle.block_count.specs.CountingSteps.{Countable, Writes};
 const STAMPS: usize = refusal::MAX_BLOCKS as usize;
 
 // Writes for each vertex how many different ones of `all` blocks it meets, and how many of its edges that takes, from edges that are
-// filed by their upper end. `pending` is a work table.
+// filed by their upper end. `edges_taken` comes with the number of edges that lead up from each vertex. `pending` is a work table.
 pub fn write_block_counts(
-    upward: &[u32],
     edges: &[u32],
     block: &[u32],
     all: u32,
@@ -27,12 +26,11 @@ pub fn write_block_counts(
     edges_taken: &mut [u32],
     pending: &mut [u32],
 )
-    requires { ⌜ Countable (edgesOf (now edges)) (now upward) (now block) all (now ends) (now lower) (now «block_count») (now «edges_taken») (now pending) ⌝ }
+    requires { ⌜ Countable (edgesOf (now edges)) (now «edges_taken») (now block) all (now ends) (now lower) (now «block_count») (now pending) ⌝ }
     ensures { λ _. ⌜ Writes (edgesOf (now (edges .entry))) (now (block .entry)) all (now («block_count» .exit)) (now («edges_taken» .exit)) ⌝ }
 {
     let mut stamps = [0u32; STAMPS];
     counting::count_buckets(
-        upward,
         block,
         all,
         ends,

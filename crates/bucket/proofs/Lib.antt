@@ -2,6 +2,7 @@
 -- believed: it is all proved.
 pub mod Ends
 pub mod Filing
+pub mod LowerCounts
 pub mod LowerEnds
 pub mod Reading
 pub mod Regrouped

@@ -1,21 +1,19 @@
 -- The three ways in which Report ends as it has to: refused before the comparison, refused by it, accepted.
 -- Assumes nothing.
-use mathlib.Core.Path.{_≡_, sym, ap, ap₂, _∙_}
+use mathlib.Core.Path.{_≡_, refl, sym, ap, ap₂, _∙_}
 use mathlib.Core.Bool.{Bool, true, false}
 use mathlib.Core.List.{List, [], _∷_}
 use Prim.Native.Nat.{ℕ}
 use native.Mathlib.Omega.{arith}
 use lib.ListN.{length}
 use Rattle.game.specs.Edge.{edges}
-use Rattle.game.specs.Net.{Net, netOf, weights}
+use Rattle.game.specs.Net.{Net, netOf}
 use Rattle.refusal.specs.Refusal.{first}
 use Rattle.refusal.proofs.First.{first-pass, first-stop, first-last, unless-refused, unless-accepted}
 use Rattle.refusal.proofs.Fault.{faultless-proper}
 use Rattle.growth.specs.Work.{Work, cleared}
 use Rattle.divide.proofs.Refused.{divide-known}
-use Rattle.reach_slots.specs.Given.{lowerCount, lowerCounts, Given}
-use Rattle.game.proofs.Weights.{weight-count}
-use Rattle.game.proofs.Tables.{tabulate-ext}
+use Rattle.reach_slots.specs.Given.{lowerCounts, Given}
 use Rattle.cost.specs.declared.Totals.{Totals}
 use Rattle.cost.specs.Figures.{totalsOf}
 use Rattle.compare.specs.Compare.{unlike}
@@ -83,16 +81,7 @@ module _ (of : Net) (B k : ℕ) (xs : List ℕ) (was : Lent) where
       own : of ≡ netOf (length (of .parents)) (edges xs)
       own = found-own of (edges xs) (c .answer) found
 
-      weighed : of .weights ≡ weights (length (of .parents)) (edges xs)
-      unfolding netOf
-      weighed = ap (λ (of : Net). of .weights) own
-
-      -- each edge is charged 1, so the weights are the counts of lower ends
-      counted : weights (length (of .parents)) (edges xs) ≡ lowerCounts (length (of .parents)) (edges xs)
-      unfolding weights lowerCounts lowerCount
-      counted = tabulate-ext (length (of .parents)) _ _ (λ x h. weight-count (edges xs) x)
-
-      own-list : Given (of .parents) (of .weights) (edges xs)
+      own-list : Given (of .parents) (lowerCounts (length (of .parents)) (edges xs)) (edges xs)
       unfolding netOf
       own-list =
           let r = ready of B k xs was z in
@@ -101,7 +90,7 @@ module _ (of : Net) (B k : ℕ) (xs : List ℕ) (was : Lent) where
             few = r .few;
             proper = faultless-proper (length (of .parents)) (edges xs) (r .faultless);
             parents = ap (λ (of : Net). of .parents) own;
-            counts = weighed ∙ counted;
+            counts = refl;
           }
 
       -- what writing asks
@@ -111,6 +100,7 @@ module _ (of : Net) (B k : ℕ) (xs : List ℕ) (was : Lent) where
           let r = ready of B k xs was z in
           let d = divide-known (of .parents) (of .weights) B k (was .written .division) (r .divides) in
           record {
+            some = r .some;
             own = own-list;
             filed = c .filed found;
             divisible = d .net;

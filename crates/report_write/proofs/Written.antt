@@ -1,6 +1,7 @@
 -- What the steps of writing a report leave, put together.
 -- Assumes nothing.
 use mathlib.Core.Path.{_≡_, sym, ap, subst, _∙_}
+use mathlib.Core.Bool.{false}
 use mathlib.Core.List.{List}
 use Prim.Native.Nat.{ℕ}
 use native.Mathlib.Omega.{arith}
@@ -11,10 +12,13 @@ use Rattle.game.specs.Net.{Net, net, reach}
 use Rattle.game.proofs.Tables.{tabulate-length}
 use Rattle.refusal.specs.Refusal.{firstFault}
 use Rattle.refusal.proofs.Fault.{proper-faultless}
+use Rattle.sorting.specs.Sorted.{withKey}
+use Rattle.bucket.specs.Ends.{endOf, ending}
 use Rattle.bucket.specs.Filed.{Filed}
+use Rattle.bucket.specs.CountingSteps.{LowerCountable}
 use Rattle.growth.specs.Work.{Work, workOf, zeros, cleared}
 use Rattle.divide.specs.Divide.{DivisionTables, divisionOf, divided}
-use Rattle.reach_slots.specs.Given.{lowerCounts}
+use Rattle.reach_slots.specs.Given.{Given, lowerCount, lowerCounts}
 use Rattle.cut.specs.Cut.{top}
 use Rattle.divide.specs.Steps.{Fitting}
 use Rattle.divide.proofs.Laws.{block-loads-sum}
@@ -34,6 +38,25 @@ use Rattle.cost.proofs.Summed.{bound-by, volume-by}
 pub fitting-kept : {n : ℕ} {c t b l : List ℕ} → Fitting n (divisionOf c t b l) → {c′ t′ b′ : List ℕ}
     → length c′ ≡ length c → length t′ ≡ length t → length b′ ≡ length b → Fitting n (divisionOf c′ t′ b′ l)
 fitting-kept f e g h = record { carried = e ∙ f .carried; top = g ∙ f .top; block = h ∙ f .block; some = f .some; few = f .few }
+
+-- the edges, as they are filed, can be counted by their lower end; then there is a count for each vertex
+module _ {p w bc en lo eb re : List ℕ} {es : List Edge} {B : ℕ} {was : DivisionTables} (q : Reportable p w B es en lo was eb re bc) where
+  ends-long : length en ≡ length p
+  ends-long = q .filed .sorted .long
+
+  filed-so : Filed (length en) es en lo
+  filed-so = subst (λ (n : ℕ). Filed n es en lo) (sym ends-long) (q .filed)
+
+  pub lower-countable : {ta : List ℕ} → length ta ≡ length p → LowerCountable es en lo ta
+  lower-countable e = record { filed = filed-so; width = e ∙ sym ends-long; some = omega (arith, ends-long, q .some); few-edges = q .own .few }
+
+  pub lower-counted : {ta : List ℕ} → ((es : List Edge) → Filed (length en) es en lo → ta ≡ tabulate (length en) (ending false es)) → ta ≡ lowerCounts (length p) es
+  unfolding lowerCounts lowerCount withKey endOf
+  lower-counted counted = counted es filed-so ∙ ap (λ (n : ℕ). lowerCounts n es) ends-long
+
+  -- what the reaches are counted from
+  pub own-counts : {ta : List ℕ} → ta ≡ lowerCounts (length p) es → Given p ta es
+  own-counts e = subst (λ (counts : List ℕ). Given p counts es) (sym e) (q .own)
 
 -- once the net is divided and its reaches are written
 module _ {p w c t b l eb re bc en lo : List ℕ} {es : List Edge} {B : ℕ} (q : Reportable p w B es en lo (divisionOf c t b l) eb re bc) {c′ t′ b′ l′ re′ : List ℕ}
@@ -66,18 +89,17 @@ module _ {p w c t b l eb re bc en lo : List ℕ} {es : List Edge} {B : ℕ} (q :
   pub block-faultless : firstFault (length b′) es ≡ 0
   block-faultless = ap (λ (n : ℕ). firstFault n es) block-long ∙ proper-faultless (length p) es (q .own .proper)
 
-  pub block-countable : {m : ℕ} {bc′ ta ju : List ℕ} → m ≡ length l → length bc′ ≡ length bc → length ta ≡ length p → length ju ≡ length p → Countable es w b′ m en lo bc′ ta ju
+  pub block-countable : {m : ℕ} {bc′ ta ju : List ℕ} → m ≡ length l → length bc′ ≡ length bc → ta ≡ lowerCounts (length p) es → length ju ≡ length p → Countable es ta b′ m en lo bc′ ju
   unfolding of k
   block-countable {m} e f g h = record {
     few = omega (arith, block-long, q .own .vertices);
     few-edges = q .own .few;
     filed = subst (λ (n : ℕ). Filed n es en lo) (sym block-long) (q .filed);
-    counted = q .own .counts ∙ ap (λ (n : ℕ). lowerCounts n es) (sym block-long);
+    counted = g ∙ ap (λ (n : ℕ). lowerCounts n es) (sym block-long);
     some = omega (arith, q .division .some);
     small = omega (arith, q .division .few);
     blocks = λ x i. omega (arith, ap (λ (t : List ℕ). getD t x 0) block-is, block-below of B k (q .division .some) x (omega (arith, block-long)));
     counts-long = f ∙ q .counts ∙ sym block-long;
-    taken-long = g ∙ sym block-long;
     pending-long = h ∙ sym block-long;
   }
 

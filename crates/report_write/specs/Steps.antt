@@ -2,7 +2,7 @@
 -- Assumes nothing.
 use mathlib.Core.Path.{_≡_}
 use mathlib.Core.List.{List}
-use Prim.Native.Nat.{ℕ}
+use Prim.Native.Nat.{ℕ, _<_}
 use lib.ListN.{length}
 use Rattle.game.specs.Table.{tabulate}
 use Rattle.game.specs.Edge.{Edge}
@@ -12,14 +12,15 @@ use Rattle.growth.specs.Work.{Work, cleared}
 use Rattle.divide.specs.Divide.{DivisionTables, divided}
 use Rattle.divide.specs.Steps.{Fitting}
 use Rattle.cut.specs.Steps.{Divisible}
-use Rattle.reach_slots.specs.Given.{Given}
+use Rattle.reach_slots.specs.Given.{Given, lowerCounts}
 use Rattle.cost.specs.declared.Totals.{Totals}
 use Rattle.cost.specs.Figures.{totalsOf}
 use Rattle.report_write.specs.Written.{Written, figures}
 
 -- What writing is given: a net that is the net of its edges, which are filed, that Divide accepts, and tables that fit.
 pub record Reportable (p w : List ℕ) (B : ℕ) (es : List Edge) (ends lower : List ℕ) (was : DivisionTables) (edgeBlocks reach blockCount : List ℕ) : Type 0 where
-  pub own : Given p w es
+  pub some : 0 < length p
+  pub own : Given p (lowerCounts (length p) es) es
   pub filed : Filed (length p) es ends lower
   pub divisible : Divisible p w B
   pub division : Fitting (length p) was

@@ -15,16 +15,16 @@ part-stamps-start : tie.Need-part-stamps-start
 part-stamps-start c = omega arith
 
 part-stamps-end : tie.Need-part-stamps-end
-part-stamps-end c = omega (arith, c .wide .ensures, c .before .before .before .before .before .before .before .before .before .before .before .before .pre .small)
+part-stamps-end c = omega (arith, c .wide .ensures, c .before .before .before .before .before .before .before .before .before .before .before .pre .small)
 
 count-buckets-requires : tie.Need-count-buckets-requires
-count-buckets-requires c κs = count-ready (c .before .before .before .before .before .before .before .before .before .before .before .before .before .pre) (c .before .wide .ensures) refl
+count-buckets-requires c κs = count-ready (c .before .before .before .before .before .before .before .before .before .before .before .before .pre) (c .before .wide .ensures) refl
 
 settle-requires : tie.Need-settle-requires
 settle-requires c κs =
     let at-count-buckets = c .before .before .before .before .before .before .before .before .before in
-    let at-pre = at-count-buckets .before .before .before .before .before .before .before .before .before .before .before .before .before .before in
-    let k = at-count-buckets .count-buckets .kept in sweep-ready (at-pre .pre) (at-count-buckets .count-buckets .ensures) (k .1 .1 .1 .1 .1 .1 .0) (k .1 .1 .1 .1 .1 .1 .1 .0)
+    let at-pre = at-count-buckets .before .before .before .before .before .before .before .before .before .before .before .before .before in
+    let k = at-count-buckets .count-buckets .kept in sweep-ready (at-pre .pre) (at-count-buckets .count-buckets .ensures) (k .1 .1 .1 .1 .1 .0) (k .1 .1 .1 .1 .1 .1 .0)
 
 same-length : tie.Need-same-length
 same-length c = search needs
@@ -39,8 +39,8 @@ returns : tie.Need-returns
 returns c =
     let at-settle = c .before .before .before .before in
     let at-count-buckets = at-settle .before .before .before .before .before .before .before .before .before .before in
-    let at-pre = at-count-buckets .before .before .before .before .before .before .before .before .before .before .before .before .before .before in
-    let k = at-count-buckets .count-buckets .kept in let m = at-settle .settle .kept in all-written (at-pre .pre) (at-count-buckets .count-buckets .ensures) (k .1 .1 .1 .1 .1 .0) (m .1 .1 .1 .0 ∙ k .1 .1 .1 .1 .1 .1 .0) (at-settle .settle .ensures)
+    let at-pre = at-count-buckets .before .before .before .before .before .before .before .before .before .before .before .before .before in
+    let k = at-count-buckets .count-buckets .kept in let m = at-settle .settle .kept in all-written (at-pre .pre) (at-count-buckets .count-buckets .ensures) (k .1 .1 .1 .1 .0) (m .1 .1 .1 .0 ∙ k .1 .1 .1 .1 .1 .0) (at-settle .settle .ensures)
 
 pub write-block-counts-spec : {M : Type 1} → statement M
 write-block-counts-spec =

@@ -1,18 +1,18 @@
 use borrow.Author.Needs.{needs}
-use Rattle.report_write.proofs.Written.{fitting-kept}
+use Rattle.report_write.proofs.Written.{fitting-kept, own-counts}
 use Rattle.report_write.proofs.divide_and_reach.Statement.{statement}
 use Rattle.report_write.proofs.divide_and_reach.Tie as tie
 
 reaches-requires : tie.Need-reaches-requires
 reaches-requires c κs =
-    let (es, q) = c .before .before .before .before .before .before .before .before .before .before .before .before .before .before .before .before .before .pre in
-    ((es, q .own, q .filed, q .edge-blocks), (q .reaches, q .division .carried, q .division .top, q .division .block, q .counts))
+    let (es, q, counted) = c .before .before .before .before .before .before .before .before .before .before .before .before .before .before .before .before .before .before .pre in
+    ((es, own-counts q counted, q .filed, q .edge-blocks), (q .reaches, q .division .carried, q .division .top, q .division .block, q .counts))
 
 cut-and-pack-requires : tie.Need-cut-and-pack-requires
 cut-and-pack-requires c κs =
     let at-reaches = c .before .before .before .before .before .before .before .before .before .before .before .before .before .before .before .before in
-    let at-pre = at-reaches .before .before .before .before .before .before .before .before .before .before .before .before .before .before .before .before .before .before in
-    let (es, q) = at-pre .pre in
+    let at-pre = at-reaches .before .before .before .before .before .before .before .before .before .before .before .before .before .before .before .before .before .before .before in
+    let (es, q, counted) = at-pre .pre in
     let k = at-reaches .reaches .kept in
     (q .divisible, fitting-kept (q .division) (k .1 .1 .1 .1 .1 .0) (k .1 .1 .1 .1 .1 .1 .0) (k .1 .1 .1 .1 .1 .1 .1 .0))
 
@@ -41,7 +41,7 @@ returns : tie.Need-returns
 returns c =
     let at-cut-and-pack = c .before .before .before .before .before .before .before .before in
     let at-reaches = at-cut-and-pack .before .before .before .before .before .before .before .before .before .before .before .before .before .before .before .before .before in
-    λ es q. record { divided-so = at-cut-and-pack .cut-and-pack .ensures; reached = at-reaches .reaches .ensures es (q .own) (q .filed) }
+    λ es q counted. record { divided-so = at-cut-and-pack .cut-and-pack .ensures; reached = at-reaches .reaches .ensures es (own-counts q counted) (q .filed) }
 
 pub divide-and-reach-spec : {M : Type 1} → statement M
 divide-and-reach-spec =
