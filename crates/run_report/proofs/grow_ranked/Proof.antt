@@ -40,12 +40,16 @@ slice-aggregate-add-2 c =
     (c .before .before .before .before .before .before .before .before .before .before .before .before .before .before .before .before .before .before .before .before .before .before .before .before .pre .0 .vertices)
 
 array-borrow-prefix-lower : tie.Need-array-borrow-prefix-lower
-array-borrow-prefix-lower c = both-fit (c .before .before .before .before .before .before .before .before .before .before .before .before .before .before .before .before .before .before .before .before .before .before .before .before .pre .0) (c .before .before .before .before .before .before .before .before .before .before .before .before .before .before .before .before .before .before .count .ensures)
+array-borrow-prefix-lower c =
+    let at-count = c .before .before .before .before .before .before .before .before .before .before .before .before .before .before .before .before .before .before in
+    let at-pre = at-count .before .before .before .before .before .before in
+    both-fit (at-pre .pre .0) (at-count .count .ensures)
 
 slice-aggregate-add-3 : tie.Need-slice-aggregate-add-3
 slice-aggregate-add-3 c =
-    part-counted (vertexCapacity + edgeCapacity) _ (both-fit
-    (c .before .before .before .before .before .before .before .before .before .before .before .before .before .before .before .before .before .before .before .before .before .before .before .before .before .pre .0) (c .before .before .before .before .before .before .before .before .before .before .before .before .before .before .before .before .before .before .before .count .ensures))
+    let at-count = c .before .before .before .before .before .before .before .before .before .before .before .before .before .before .before .before .before .before .before in
+    let at-pre = at-count .before .before .before .before .before .before in
+    part-counted (vertexCapacity + edgeCapacity) _ (both-fit (at-pre .pre .0) (at-count .count .ensures))
 
 add-requires : tie.Need-add-requires
 add-requires c κs = search needs
