@@ -69,14 +69,14 @@ GROUPS = [
 
 HEAD = """# What must be believed
 
-`python3 docs/believe.py` writes this page, and a test holds it against the crates.
+`python3 docs/believe.py` writes this page, and a test checks that it is up to date.
 
-Each call is proved to keep its contract, and each law is proved. What no proof tells is whether contracts and laws say
-what is meant by them. For that they have to be read: the contracts of the functions named below, in `src/` of their
-crates, and the statements of the laws, which [PROOFS.md](PROOFS.md) tells the places of. This page lists the
-definitions of their words, and of the words of these definitions, and so on: each once, in the first section that
-needs it, and each file behind those that it speaks of. Nothing else has to be read to know what is promised: no body
-of a function, no proof, and no other definition.
+Each call is proved to keep its contract, and each law is proved. No proof can show that contracts and laws say what
+was meant. So they have to be read: the contracts of the functions named below, in `src/` of their crates, and the
+statements of the laws, which [PROOFS.md](PROOFS.md) lists with their files. This page lists the definitions of their
+words, and of the words of these definitions, and so on: each once, in the first section that needs it, and each file
+after those that it uses. Nothing else has to be read to know what is promised: no body of a function, no proof, and no
+other definition.
 
 There are **{total}**, not counting comments, imports, and the lines `infix` and `unfolding`, which define nothing. A
 record counts with its fields, and data with its constructors. Files are named from `crates/` on.

@@ -4,30 +4,29 @@
  * tables, for most programs the better form: inline functions that pass tables on to the first, and are tested.
  *
  * TABLES. A table is passed as a pointer and its number of entries. A graph has n vertices, 1 to NIQASTUL_MAX_VERTICES,
- * named by their ranks 0 to n-1 in an elimination order. An edge list holds two vertices to an edge, edges may repeat,
- * and its length is the number of its entries, twice that of its edges. A net is two tables of n entries, lent to every
- * call:
- *     parents[x]   the parent of x in the elimination forest, above x, or NIQASTUL_ABSENT;
+ * named by their ranks 0 to n-1 in an elimination order. An edge list holds two vertices to an edge, and edges may
+ * repeat: a list of m edges has 2m entries. A net is two tables of n entries:
+ *     parents[x]   the parent of x in the elimination forest, a higher rank, or NIQASTUL_ABSENT;
  *     weights[x]   the number of edges whose lower end is x, repeats counted.
  * An index is two tables beside an edge list:
  *     neighbours   the runs of all vertices end to end, by rising rank, as long as the list: the run of x has for each
  *                  edge at x, in the order of the list, its other end, repeats included;
  *     starts[x]    where the run of x starts in neighbours, n+1 entries: it ends where that of x+1 starts, and the last
  *                  entry is the end of the last run.
- * n is the length of parents, of an index that of starts less one, and every other table must have exactly the length
- * that is named at the call. Work tables are room that the call needs and that the caller lends; what they hold before
- * does not matter.
+ * n is the length of parents; in niqastul_relabel that of order; in niqastul_index and niqastul_query that of starts
+ * less one. Every other table must have exactly the length that is named at the call. Work tables are room that the
+ * call needs and that the caller lends; what they hold before does not matter.
  *
  * ANSWERS. 0 (NIQASTUL_ACCEPTED), or the number of the refusal: of those that are listed at the call, the first that
  * applies. A refused call leaves every table bit for bit as it was; the exceptions are named at the calls. What is not
  * refused is accepted, and then every table that is not const is as the call says. Nothing is allocated or kept between
  * calls, and there is no other state: calls on different tables may run in different threads.
  *
- * WHERE THE FOREST MOVED. Adding and joining tell in a cell the lowest rank whose parent is now another than before the
- * call, or NIQASTUL_ABSENT if none moved; a weight alone that rises moves nothing. Every rank below the answer has its
- * old parent, so that a host which keeps a copy of the parents rereads them from there on and misses nothing. Parents
- * only fall, an absent one counting as the highest, so that after several calls in a row the lowest of their answers is
- * the lowest rank that moved in all.
+ * WHERE THE FOREST MOVED. Adding and joining write to a cell the lowest rank whose parent changed, or NIQASTUL_ABSENT
+ * if none did; a weight alone that rises moves nothing. Every rank below the answer has its old parent, so that a host
+ * which keeps a copy of the parents rereads them from there on and misses nothing. Parents only fall, an absent one
+ * counting as the highest, so that after several calls in a row the lowest of their answers is the lowest rank that
+ * moved in all.
  *
  * THE CALLER'S DUTY. The calls check every number and every length, and nothing else can be checked here:
  *   - each pointer leads to as many entries as its length says, readable, and writable where it is not const;
@@ -108,9 +107,9 @@ static inline const char *niqastul_text(uint32_t answer)
 
 /* RELABEL an edge list from vertex numbers to ranks, by an order: the vertex order[r] has rank r.
  *   reads   order   [n]        each of 0 to n-1 once
- *           edges   [m]        in vertex numbers
- *   writes  out     [m]        the same edges in ranks
- *           inverse [n]        work; ends holding the rank of each vertex by its number
+ *           edges   [2m]       in vertex numbers
+ *   writes  out     [2m]       the same edges in ranks
+ *           inverse [n]        work; left holding the rank of each vertex, by its number
  *   refused 1, 2, 3, 4 or 5 at the first faulty edge (in vertex numbers). There is no limit on the number of edges. */
 uint32_t niqastul_relabel(const uint32_t *order, size_t order_length,
                           const uint32_t *edges, size_t edges_length,
@@ -125,9 +124,9 @@ uint32_t niqastul_start(uint32_t *parents, size_t parents_length,
 
 /* ADD edges to a net, as a whole or not at all. The parents become those of the elimination game on the links of the
  * old forest and the new edges; each edge raises the weight of its lower end by 1.
- *   reads   edges   [m]        in ranks
+ *   reads   edges   [2m]       in ranks
  *   writes  parents [n], weights [n]
- *           ends [n], jump [n], lower [niqastul_add_lower(n, m)]      work; end as zeros
+ *           ends [n], jump [n], lower [n+m]      work; left as zeros
  *           *moved             where the forest moved, or NIQASTUL_ABSENT
  *   refused 1, 2, 30, 4 or 5 at the first faulty edge, 20 (the old total and the new edges together, so
  *           that a list of more than NIQASTUL_MAX_EDGES edges is always refused) */
@@ -148,7 +147,7 @@ static inline size_t niqastul_add_lower(size_t parents_length, size_t edges_leng
  * of both, which are those of the edges of both together; the weights are summed.
  *   reads   other_parents [n], other_weights [n]
  *   writes  parents [n], weights [n]
- *           ends [n], jump [n], lower [niqastul_join_lower(n, the other net's n)]     work; end as zeros
+ *           ends [n], jump [n], lower [n + the other net's n]     work; left as zeros
  *           *moved             where the forest moved, or NIQASTUL_ABSENT
  *   refused 1 (of either net), 2 (each net's weights against its own parents, lower against the sum of both vertex
  *           counts, also where they differ: 2 comes before 21), 21, 30 (of either net), 20 (both totals together) */
@@ -214,15 +213,15 @@ uint32_t niqastul_divide(const uint32_t *parents, size_t parents_length,
  * to the last edge if they never are. In another order a vertex may take more or fewer edges; edge_blocks goes along
  * with the list, and everything else stays the same.
  *   reads   parents [n], weights [n]
- *           edges   [m]        in ranks
+ *           edges   [2m]       in ranks
  *   writes  carried [n], top [n], block [n], block_loads [blocks]      as niqastul_divide
- *           edge_blocks [m / 2]       the block of each edge
+ *           edge_blocks [m]    the block of each edge
  *           reach   [n]        the number of vertices above a vertex that have an edge to it or to a vertex that it is
  *                              above
  *           block_count [n]    the number of different blocks among the edges of a vertex
  *           edges_taken [n]    how many of its edges that count took, 0 if it has none
  *           compared_parents [n], compared_weights [n]       end holding the net of the edges
- *           ends [n], jump [n], lower [niqastul_add_lower(n, m)]      work; end as zeros
+ *           ends [n], jump [n], lower [n+m]      work; left as zeros
  *           *bound             the sum of the reaches of the vertices that are cut off
  *           *volume            the sum of (block_count - 1) over the vertices with an edge, never above the bound
  *           *quotient, *remainder     the even share: the total of the weights divided by blocks. quotient * blocks +
@@ -256,14 +255,14 @@ uint32_t niqastul_report(const uint32_t *parents, size_t parents_length,
 
 /* SEPARATE two vertices of which neither stands above the other: lists the vertices that stand above both, given the
  * net's own edges in any order. A vertex stands above another if it is reached from it by one or more parents. Every
- * chain of edges from one to the other passes a vertex of the separator; with a count of 0, which is that of vertices
- * in separate trees, there is no chain.
+ * walk along edges from one to the other passes a vertex of the separator. With a count of 0 there is no walk: the two
+ * are in separate trees.
  *   reads   parents [n], weights [n]
  *           one, other         ranks
- *           edges   [m]        in ranks
+ *           edges   [2m]       in ranks
  *   writes  separator [n]      its first *count entries: the vertices above both, by rising rank; the rest is as it was
  *           compared_parents [n], compared_weights [n]       end holding the net of the edges
- *           ends [n], jump [n], lower [niqastul_add_lower(n, m)]      work; end as zeros
+ *           ends [n], jump [n], lower [n+m]      work; left as zeros
  *           *count             how many vertices stand above both
  *           *lowest            the lowest of them, or NIQASTUL_ABSENT if there are none
  *   refused 1, 2, 30 (of the net), 4 (one or other is n or more, before any edge is looked at), 4 or 5 at the first
@@ -287,8 +286,8 @@ uint32_t niqastul_separate(const uint32_t *parents, size_t parents_length,
 /* INDEX an edge list, given in two parts, an old list and an added one: the index is that of the old edges followed by
  * the added ones, as one list would give it. Each edge stands in the runs of both its ends. No index of the old edges
  * is needed, and what the two tables held before does not matter.
- *   reads   old_edges [m], added [k]      in ranks; either may be empty
- *   writes  starts [n+1], neighbours [m+k]
+ *   reads   old_edges, added   [2m together], in ranks; either may be empty
+ *   writes  starts [n+1], neighbours [2m]
  *   refused 2 (no starts), 1, 2, 4 or 5 at the first faulty edge, the old before the added, 20 (more than
  *           NIQASTUL_MAX_EDGES edges, old and added together) */
 uint32_t niqastul_index(const uint32_t *old_edges, size_t old_edges_length,
@@ -312,7 +311,7 @@ uint32_t niqastul_query(const uint32_t *starts, size_t starts_length,
 
 /* THE CALLS OVER STRUCTS. From here on, tables that belong together are one struct, and each call above has a function
  * that takes structs. A program that uses them does not list tables: if a later version has more of them, it is
- * compiled anew and not edited. Nor can it exchange two tables: a struct of another kind does not compile.
+ * compiled again, not edited. Nor can it exchange two structs: passing the wrong kind does not compile.
  *
  * MAKING. niqastul_X_size says how many bytes the tables of a struct need together, and niqastul_X_in lays them into
  * memory of that size, end to end in the order of the fields, so that the first one begins where the memory does:

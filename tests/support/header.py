@@ -41,7 +41,7 @@ def inline(text):
 
 
 def work_tables(text):
-    """The tables of each call that the comment above it calls work: `ends [n], jump [n]      work; end as zeros`."""
+    """The tables of each call that the comment above it calls work: `ends [n], jump [n]      work; left as zeros`."""
     comments = re.findall(r"/\*((?:(?!\*/).)*)\*/\s*uint32_t niqastul_(\w+)\(", text, flags=re.S)
     lines = {name: re.findall(r"^(.*\])\s+work;", comment, flags=re.M) for comment, name in comments}
     return {name: re.findall(r"(\w+)\s+\[", " ".join(its)) for name, its in lines.items()}
