@@ -11,7 +11,7 @@ INCLUDEDIR = $(PREFIX)/include
 # A change of the header raises the minor number. The shared object is named by both numbers, so that a host built
 # against another header cannot load it. The header and bindings/ name the version too; tests/hosts/test_interface.py
 # holds them together.
-VERSION = 0.7.0
+VERSION = 0.8.0
 SONAME = libniqastul.so.$(basename $(VERSION))
 
 SOURCES := crates.txt $(shell find crates -name '*.rt' -o -name '*.antt')

@@ -24,7 +24,8 @@ static uint32_t join(struct tables *t)
 static void relabel(const struct net *net, struct tables *t)
 {
     struct niqastul_order order = {net->order, net->vertices};
-    must(niqastul_order_relabel(order, edges_of(net->list, net->edges), t->ranks, t->work) == 0, "relabel refused");
+    struct niqastul_edges edges = edges_of(net->list, net->edges);
+    must(niqastul_order_relabel(order, edges, (uint32_t *)t->ranks, t->work) == 0, "relabel refused");
 }
 
 static void save(struct tables *t)
@@ -86,6 +87,53 @@ static uint32_t compare_all(const uint32_t *parents, uint32_t *copy, size_t n)
     return x < n ? (uint32_t)x : NIQASTUL_ABSENT;
 }
 
+/* Keeps the parents that a route of SuiteSparse came to, in place of those of the one before. */
+static void keep(int **parents, int *found, size_t n)
+{
+    must(*parents == NULL || !memcmp(*parents, found, 4 * n), "SuiteSparse disagrees with itself");
+    free(*parents);
+    *parents = found;
+}
+
+/* What one contender left must not pass for what the next one does. */
+static void spoil(struct niqastul_net net)
+{
+    memset(net.parents, 1, niqastul_net_size(net.vertices));
+}
+
+static int is_net(struct niqastul_net net, const int *parents, const uint32_t *weights)
+{
+    return !memcmp(net.parents, parents, 4 * net.vertices) && !memcmp(net.weights, weights, 4 * net.vertices);
+}
+
+/* Whether a list is the net's in ranks of its order, each edge with the rows that it had. */
+static int is_relabelled(const struct net *net, const struct edge *ranks)
+{
+    int same = 1;
+    for (size_t i = 0; i < net->edges; i++) {
+        struct edge edge = net->list[i], its = ranks[i];
+        same &= net->order[its.a] == edge.a && net->order[its.b] == edge.b && its.rows == edge.rows;
+    }
+    return same;
+}
+
+static int is_saved(const uint8_t *bytes, struct niqastul_net net)
+{
+    int same = 1;
+    for (size_t x = 0; x < net.vertices; x++)
+        same &= !memcmp(bytes + 8 * x, net.parents + x, 4) && !memcmp(bytes + 8 * x + 4, net.weights + x, 4);
+    return same;
+}
+
+/* A column count of SuiteSparse counts the vertex itself. */
+static int are_reaches(const uint32_t *reach, const int *counts, size_t n)
+{
+    int same = 1;
+    for (size_t x = 0; x < n; x++)
+        same &= (uint32_t)counts[x] == reach[x] + 1;
+    return same;
+}
+
 /* A copy would leave a table warm for the next contender. */
 static void exchange(uint32_t **one, uint32_t **other)
 {
@@ -102,64 +150,75 @@ static void measure(const char *family, const struct net *net)
     size_t n = net->vertices, m = net->edges, half = m / 2, few = m < FEW ? m : FEW;
     struct tables t = make_tables(n, m);
     struct niqastul_net first = new_net(n), second = new_net(n), most = new_net(n);
-    struct niqastul_edges whole = edges_of(net->list, m), last = edges_of(net->list + 2 * (m - few), few);
-    uint32_t *spare = room(2 * n, 4), *plain_count = spare, *plain_taken = spare + n;
-    int *parents = NULL;
-    double grow, peer, triplets, plain, added, one_pass, joined, plain_joined, relabelled;
+    struct niqastul_edges whole = edges_of(net->list, m), last = edges_of(net->list + (m - few), few);
+    uint32_t *spare = room(3 * n, 4), *plain_reach = spare, *plain_count = spare + n, *plain_taken = spare + 2 * n;
+    uint32_t *weights = room(n, 4), plain_loads[NIQASTUL_MAX_BLOCKS];
+    int *parents = NULL, *found;
+    double grow, peer, peer_rows, triplets, triplets_rows, plain, added, one_pass, joined, plain_joined, relabelled;
     double checked_relabelled, plain_relabelled, compared, saved, plain_saved, was_read, plain_was_read;
     static const uint32_t blocks[] = {16, NIQASTUL_MAX_BLOCKS}, reported_blocks[] = {16, 2};
     double divided[] = {1e300, 1e300}, plain_divided[] = {1e300, 1e300};
     double reported[] = {1e300, 1e300}, plain_reported[] = {1e300, 1e300}, counted = 1e300;
-    grow = peer = triplets = plain = added = one_pass = joined = plain_joined = relabelled = 1e300;
-    checked_relabelled = plain_relabelled = compared = saved = plain_saved = was_read = plain_was_read = 1e300;
+    grow = peer = peer_rows = triplets = triplets_rows = plain = added = one_pass = joined = plain_joined = 1e300;
+    relabelled = checked_relabelled = plain_relabelled = compared = 1e300;
+    saved = plain_saved = was_read = plain_was_read = 1e300;
 
     start(first);
     add(first, edges_of(net->list, half), &t);
     start(second);
-    add(second, edges_of(net->list + 2 * half, m - half), &t);
+    add(second, edges_of(net->list + half, m - half), &t);
     start(most);
     add(most, edges_of(net->list, m - few), &t);
     for (int round = 0; round < rounds(net); round++) {
-        TIME(triplets, free(parents), parents = suitesparse_etree_by_triplets(net));
-        TIME(peer, free(parents), parents = suitesparse_etree(net, &t));
-        TIME(plain, , plain_grow(net, &t));
-        must(!memcmp(parents, t.net.parents, 4 * n), "plain C and SuiteSparse disagree");
+        TIME(triplets, , found = suitesparse_etree_by_triplets(net));
+        keep(&parents, found, n);
+        TIME(triplets_rows, , (found = suitesparse_etree_by_triplets(net), sum_rows(net, weights)));
+        keep(&parents, found, n);
+        TIME(peer, , found = suitesparse_etree(net, &t));
+        keep(&parents, found, n);
+        TIME(peer_rows, , (found = suitesparse_etree(net, &t), sum_rows(net, weights)));
+        keep(&parents, found, n);
+        TIME(plain, spoil(t.net), plain_grow(net, &t));
+        must(is_net(t.net, parents, weights), "plain C and SuiteSparse disagree");
 
-        /* plain C leaves its counts in the table of ends; a call leaves zeros, so that is how the next one finds it */
-        TIME(grow, (memset(t.net.parents, 1, 4 * n), memset(t.ends, 0, 4 * n)), (start(t.net), add(t.net, whole, &t)));
-        must(!memcmp(parents, t.net.parents, 4 * n), "the library and SuiteSparse disagree on growing");
+        /* plain C leaves ends and jump, side by side, as it used them; a call leaves zeros, and the next finds them */
+        TIME(grow, (spoil(t.net), memset(t.ends, 0, 2 * 4 * n)), (start(t.net), add(t.net, whole, &t)));
+        must(is_net(t.net, parents, weights), "the library and SuiteSparse disagree on growing");
 
         uint32_t moved, plain_moved;
         TIME(added, copy_net(t.net, most), moved = add(t.net, last, &t));
-        must(!memcmp(parents, t.net.parents, 4 * n), "the library and SuiteSparse disagree on adding");
+        must(is_net(t.net, parents, weights), "the library and SuiteSparse disagree on adding");
         TIME(one_pass, , sink = pass(t.net.parents, t.net.weights, n));
         TIME(compared, memcpy(t.other.parents, most.parents, 4 * n),
              plain_moved = compare_all(t.net.parents, t.other.parents, n));
         must(moved == plain_moved, "the library and plain C disagree on where the forest moved");
 
         copy_net(t.other, second);
-        TIME(plain_joined, memcpy(t.net.parents, first.parents, 4 * n), plain_join(n, &t));
-        must(!memcmp(parents, t.net.parents, 4 * n), "plain C and SuiteSparse disagree on joining");
+        TIME(plain_joined, copy_net(t.net, first), plain_join(n, &t));
+        must(is_net(t.net, parents, weights), "plain C and SuiteSparse disagree on joining");
         TIME(joined, copy_net(t.net, first), moved = join(&t));
-        must(!memcmp(parents, t.net.parents, 4 * n), "the library and SuiteSparse disagree on joining");
+        must(is_net(t.net, parents, weights), "the library and SuiteSparse disagree on joining");
         memcpy(t.other.parents, first.parents, 4 * n);
         must(moved == compare_all(t.net.parents, t.other.parents, n),
              "the library and plain C disagree on where a joined forest moved");
 
-        TIME(plain_saved, , plain_save(n, &t));
-        TIME(saved, , save(&t));
-        TIME(plain_was_read, memset(t.net.parents, 1, 4 * n), plain_read(n, &t));
-        TIME(was_read, memset(t.net.parents, 1, 4 * n), read(&t));
-        must(!memcmp(parents, t.net.parents, 4 * n), "what was saved is not what is read");
+        TIME(plain_saved, memset(t.bytes, 1, niqastul_bytes(n)), plain_save(n, &t));
+        must(is_saved(t.bytes, t.net), "plain C saves another net");
+        TIME(saved, memset(t.bytes, 1, niqastul_bytes(n)), save(&t));
+        must(is_saved(t.bytes, t.net), "the library and plain C disagree on saving");
+        TIME(plain_was_read, spoil(t.net), plain_read(n, &t));
+        must(is_net(t.net, parents, weights), "plain C reads another net than was saved");
+        TIME(was_read, spoil(t.net), read(&t));
+        must(is_net(t.net, parents, weights), "what was saved is not what is read");
 
         for (int k = 0; k < 2; k++) {
             uint32_t limit = limit_for(blocks[k], t.net.weights, n);
             TIME(plain_divided[k], , plain_divide(n, limit, blocks[k], &t));
             memcpy(t.other.parents, t.division.block, 4 * n);
-            memcpy(t.other.weights, t.division.block_loads, 4 * blocks[k]);
+            memcpy(plain_loads, t.division.block_loads, 4 * blocks[k]);
             TIME(divided[k], memset(t.division.block, 1, 4 * n), divide(&t, limit, blocks[k]));
             must(!memcmp(t.other.parents, t.division.block, 4 * n) &&
-                     !memcmp(t.other.weights, t.division.block_loads, 4 * blocks[k]),
+                     !memcmp(plain_loads, t.division.block_loads, 4 * blocks[k]),
                  "the library and plain C disagree on dividing");
         }
 
@@ -169,7 +228,8 @@ static void measure(const char *family, const struct net *net)
             uint32_t limit = limit_for(reported_blocks[k], t.net.weights, n);
             struct niqastul_totals its, plain_its;
             TIME(plain_reported[k], , plain_report(net, limit, reported_blocks[k], &t, &plain_its));
-            exchange(&plain_count, &t.report.block_count), exchange(&plain_taken, &t.report.edges_taken);
+            exchange(&plain_reach, &t.report.reach), exchange(&plain_count, &t.report.block_count);
+            exchange(&plain_taken, &t.report.edges_taken);
             TIME(reported[k], , report(net, &t, limit, reported_blocks[k], &its));
             must(its.bound == plain_its.bound && its.volume == plain_its.volume && its.volume <= its.bound,
                  "the library and plain C disagree on a report");
@@ -178,19 +238,25 @@ static void measure(const char *family, const struct net *net)
             must(!memcmp(plain_count, t.report.block_count, 4 * n), "the library and plain C disagree on block counts");
             must(!memcmp(plain_taken, t.report.edges_taken, 4 * n),
                  "the library and plain C disagree on the edges taken");
-            for (size_t x = 0; x < n; x++)
-                must((uint32_t)counts[x] == t.report.reach[x] + 1, "the library and SuiteSparse disagree on reaches");
+            must(are_reaches(plain_reach, counts, n), "plain C and SuiteSparse disagree on reaches");
+            must(are_reaches(t.report.reach, counts, n), "the library and SuiteSparse disagree on reaches");
+            must(is_net(t.net, parents, weights) && is_net(t.other, parents, weights), "a report has another net");
         }
         free(counts);
 
-        TIME(plain_relabelled, , plain_relabel(net, net->order, t.ranks, t.ends));
+        size_t list_size = m * sizeof(struct edge);
+        TIME(plain_relabelled, memset(t.ranks, 0, list_size), plain_relabel(net, net->order, t.ranks, t.ends));
+        must(is_relabelled(net, t.ranks), "plain C relabels to another list");
         uint32_t refusal;
-        TIME(checked_relabelled, , refusal = checked_relabel(net, net->order, t.ranks, t.ends));
-        must(refusal == 0, "plain C refuses to relabel");
-        TIME(relabelled, , relabel(net, &t));
+        TIME(checked_relabelled, memset(t.ranks, 0, list_size),
+             refusal = checked_relabel(net, net->order, t.ranks, t.ends));
+        must(refusal == 0 && is_relabelled(net, t.ranks), "plain C with checks relabels to another list");
+        TIME(relabelled, memset(t.ranks, 0, list_size), relabel(net, &t));
+        must(is_relabelled(net, t.ranks), "the library and plain C disagree on relabelling");
     }
     row("grow", family, net);
-    printf("\tniqastul\t%.4f\tSuiteSparse\t%.4f\tcs_compress\t%.4f\tplain C\t%.4f\n", grow, peer, triplets, plain);
+    printf("\tniqastul\t%.4f\tSuiteSparse\t%.4f\tcs_compress\t%.4f", grow, peer, triplets);
+    printf("\tSuiteSparse + rows\t%.4f\tcs_compress + rows\t%.4f\tplain C\t%.4f\n", peer_rows, triplets_rows, plain);
     row("add 100", family, net);
     printf("\tniqastul\t%.4f\tone pass\t%.4f\tcompare all\t%.4f\tSuiteSparse\t%.4f\n", added, one_pass, compared, peer);
     row("join", family, net);
@@ -210,15 +276,17 @@ static void measure(const char *family, const struct net *net)
         printf("\tniqastul\t%.4f\tSuiteSparse\t%.4f\tplain C\t%.4f\n", reported[k], peer + counted, plain_reported[k]);
     }
     fflush(stdout);
-    free(first.parents), free(second.parents), free(most.parents), free(parents), free(spare);
+    free(first.parents), free(second.parents), free(most.parents), free(parents), free(spare), free(weights);
     free_tables(&t);
 }
 
 int main(int count, char **words)
 {
-    static const size_t sizes[] = {10000, 30000, 100000, 300000, 1000000};
+    static size_t sizes[] = {10000, 30000, 100000, 300000, 1000000};
     size_t most = count > 1 ? (size_t)atol(words[1]) : 1000000;
     const char *only = count > 2 ? words[2] : "";
+    if (most < sizes[0])
+        sizes[0] = most; /* small nets show nothing but whether all agree */
     /* memory that a peer frees stays with the program, so that it pays for no fresh pages */
     mallopt(M_MMAP_THRESHOLD, 1 << 30);
     mallopt(M_TRIM_THRESHOLD, 1 << 30);

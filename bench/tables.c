@@ -11,9 +11,9 @@ void copy_net(struct niqastul_net to, struct niqastul_net from)
     memcpy(to.parents, from.parents, niqastul_net_size(to.vertices));
 }
 
-struct niqastul_edges edges_of(const uint32_t *list, size_t m)
+struct niqastul_edges edges_of(const struct edge *list, size_t m)
 {
-    return (struct niqastul_edges){list, 2 * m};
+    return (struct niqastul_edges){(const uint32_t *)list, NIQASTUL_STRIDE * m};
 }
 
 /* Memory that both the library and the peers work in. */
@@ -41,7 +41,7 @@ struct tables make_tables(size_t n, size_t m)
     struct tables t = {.net = new_net(n), .other = new_net(n)};
     make_work(&t, n, m);
     make_report(&t, m);
-    t.ranks = room(2 * m, 4);
+    t.ranks = room(m, sizeof(struct edge));
     t.start = room(n + 1, sizeof(int));
     t.row = room(m, sizeof(int));
     t.bytes = room(niqastul_bytes(n), 1);

@@ -12,7 +12,7 @@ struct niqastul_net new_net(size_t n);
 void copy_net(struct niqastul_net to, struct niqastul_net from);
 
 /* So many edges of a list. */
-struct niqastul_edges edges_of(const uint32_t *list, size_t m);
+struct niqastul_edges edges_of(const struct edge *list, size_t m);
 
 void start(struct niqastul_net net);
 /* Answers where the forest moved. */

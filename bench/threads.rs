@@ -1,6 +1,6 @@
 //! Measures growing a net in two threads beside one, by the Rust crate, on the bench's nets: threads [MOST [FAMILY]]
 //! Prints lines as bench does. The times are elapsed ones: the processor time of two threads would count both.
-use niqastul::Net;
+use niqastul::{Net, STRIDE};
 use std::ffi::{c_char, c_int, CStr};
 use std::time::Instant;
 
@@ -43,13 +43,14 @@ fn grow(vertices: usize, edges: &[u32], threads: usize) -> (f64, (Net, Option<u3
 
 fn measure(name: &str, vertices: usize, edges: &[u32]) {
     let (mut one, mut two) = (f64::INFINITY, f64::INFINITY);
-    for _ in 0..if edges.len() / 2 > LONG_LIST { LONG_ROUNDS } else { ROUNDS } {
+    let count = edges.len() / STRIDE;
+    for _ in 0..if count > LONG_LIST { LONG_ROUNDS } else { ROUNDS } {
         let (took, net) = grow(vertices, edges, 1);
         let (took_two, net_two) = grow(vertices, edges, 2);
         assert!(net == net_two, "one thread and two disagree");
         (one, two) = (one.min(took), two.min(took_two));
     }
-    println!("threads\t{name}\t{vertices}\t{}\ttwo threads\t{two:.4}\tone thread\t{one:.4}", edges.len() / 2);
+    println!("threads\t{name}\t{vertices}\t{count}\ttwo threads\t{two:.4}\tone thread\t{one:.4}");
 }
 
 fn main() {
@@ -60,10 +61,11 @@ fn main() {
         // nets.c has as many families as it says
         let family = unsafe { FAMILIES.as_ptr().add(place) };
         let name = unsafe { CStr::from_ptr((*family).name) }.to_str().unwrap();
-        for size in [100_000, 1_000_000] {
+        // nets of so many if that is below the least size, as in bench.c
+        for size in [most.min(100_000), 1_000_000] {
             if size <= most && name.starts_with(only) {
                 let mut net = unsafe { make_net(family, size) };
-                measure(name, net.vertices, unsafe { std::slice::from_raw_parts(net.list, 2 * net.edges) });
+                measure(name, net.vertices, unsafe { std::slice::from_raw_parts(net.list, STRIDE * net.edges) });
                 unsafe { free_net(&mut net) };
             }
         }

@@ -1,7 +1,7 @@
 /* From an order and an edge file to blocks: blocks marks.ord ties.rec want.rec
- * The files hold little-endian 32-bit numbers: vertices, two vertices to an edge, the limit and the number of blocks. A
- * line for each rank: rank, vertex, parent, weight, reach, top, block, block count; then bound, volume and even share
- * (quotient, remainder).
+ * The files hold little-endian 32-bit numbers: vertices; two vertices and the rows of each edge; the limit and the
+ * number of blocks. A line for each rank: rank, vertex, parent, weight, reach, top, block, block count; then bound,
+ * volume and even share (quotient, remainder).
  *
  *     cc blocks.c $(pkg-config --cflags --libs niqastul) -o blocks        after make install */
 #include <inttypes.h>

@@ -5,7 +5,8 @@
  *     mpicc parts.c $(pkg-config --cflags --libs niqastul) -o parts        after make install
  *     mpirun -n 4 ./parts marks.ord ties.rec forest.link
  *
- * The first two files hold little-endian 32-bit vertex numbers: the order, and two to an edge. */
+ * The first two files hold little-endian 32-bit numbers: the vertices of the order; two vertices and the rows of each
+ * edge. */
 #include <mpi.h>
 #include <niqastul.h>
 #include <stdio.h>
@@ -118,7 +119,8 @@ int main(int count, char **files)
     work = niqastul_work_in(room(niqastul_work_size(net, edges)), net, edges);
 
     agree(niqastul_order_relabel(order, numbered, ranks, work));
-    agree(total > NIQASTUL_MAX_TOTAL ? NIQASTUL_FULL : NIQASTUL_ACCEPTED);
+    /* as one call would be: so many edges have at most NIQASTUL_MAX_TOTAL rows, and no join is refused */
+    agree(total > NIQASTUL_MAX_EDGES ? NIQASTUL_FULL : NIQASTUL_ACCEPTED);
     agree(niqastul_net_start(net));
     agree(niqastul_net_add(net, edges, work, &moved));
     reduce(memory);

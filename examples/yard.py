@@ -1,9 +1,9 @@
 """A small yard to try the commands on: python3 examples/yard.py FOLDER
 
 Rows of plots with paths between them and a wall across, as a survey would have it. Marks stand at the corners of the plots; ties go
-along the sides of the plots, over some of their diagonals and across the paths, and through the wall at its gate alone. Written are
-marks.ord, ties.rec, want.rec, places.txt, and three.rec, which wants three blocks: four are too many for any mark to meet them all. The
-order is a nested dissection by places: what parts the yard is eliminated last."""
+along the sides of the plots, over some of their diagonals and across the paths, and through the wall at its gate alone. Each tie is a
+distance, of one equation row. Written are marks.ord, ties.rec, want.rec, places.txt, and three.rec, which wants three blocks: four are too
+many for any mark to meet them all. The order is a nested dissection by places: what parts the yard is eliminated last."""
 
 import os
 import random
@@ -76,7 +76,7 @@ def main(folder):
         neighbours[other].add(one)
     os.makedirs(folder, exist_ok=True)
     written(folder, "marks.ord", dissected(sorted(places), places, neighbours))
-    written(folder, "ties.rec", [mark for tie in ties for mark in tie])
+    written(folder, "ties.rec", [number for tie in ties for number in (*tie, 1)])
     written(folder, "want.rec", [LIMIT, BLOCKS])
     written(folder, "three.rec", [LIMIT, 3])
     with open(os.path.join(folder, "places.txt"), "w") as file:

@@ -4,13 +4,15 @@
  * tables, for most programs the better form: inline functions that pass tables on to the first, and are tested.
  *
  * TABLES. A table is passed as a pointer and its number of entries. A graph has n vertices, 1 to NIQASTUL_MAX_VERTICES,
- * named by their ranks 0 to n-1 in an elimination order. An edge list holds two vertices to an edge, and edges may
- * repeat: a list of m edges has 2m entries. A net is two tables of n entries:
+ * named by their ranks 0 to n-1 in an elimination order. An edge list holds three numbers to an edge, its two vertices
+ * and its rows, so that a list of m edges has 3m entries. Rows are 1 to NIQASTUL_MAX_ROWS: a levelled difference gives
+ * the adjustment one equation row, a satellite vector three, a full pose six. Edges may repeat, each time with rows of
+ * its own. A net is two tables of n entries:
  *     parents[x]   the parent of x in the elimination forest, a higher rank, or NIQASTUL_ABSENT;
- *     weights[x]   the number of edges whose lower end is x, repeats counted.
+ *     weights[x]   the sum of the rows of the edges whose lower end is x, repeats included.
  * An index is two tables beside an edge list:
- *     neighbours   the runs of all vertices end to end, by rising rank, as long as the list: the run of x has for each
- *                  edge at x, in the order of the list, its other end, repeats included;
+ *     neighbours   the runs of all vertices end to end, by rising rank, two entries to an edge: the run of x has for
+ *                  each edge at x, in the order of the list, its other end, repeats included;
  *     starts[x]    where the run of x starts in neighbours, n+1 entries: it ends where that of x+1 starts, and the last
  *                  entry is the end of the last run.
  * n is the length of parents; in niqastul_relabel that of order; in niqastul_index and niqastul_query that of starts
@@ -45,17 +47,18 @@ extern "C" {
 #endif
 
 /* The version that this header belongs to, as text and as numbers. */
-#define NIQASTUL_VERSION "0.7.0"
+#define NIQASTUL_VERSION "0.8.0"
 #define NIQASTUL_VERSION_MAJOR 0
-#define NIQASTUL_VERSION_MINOR 7
+#define NIQASTUL_VERSION_MINOR 8
 #define NIQASTUL_VERSION_PATCH 0
 
 #define NIQASTUL_ABSENT UINT32_C(0xFFFFFFFF) /* for no rank: no parent, none that moved, none in a separator */
-#define NIQASTUL_STRIDE 2 /* the numbers to an edge in a list: its ends */
+#define NIQASTUL_STRIDE 3 /* the numbers to an edge in a list: its ends and its rows */
 #define NIQASTUL_MAX_VERTICES 1000000
+#define NIQASTUL_MAX_ROWS 6 /* of an edge */
 #define NIQASTUL_MAX_EDGES 16000000 /* of a list that is added, given as a net's own or indexed */
-#define NIQASTUL_MAX_TOTAL 16000000 /* of the weights of a net */
-#define NIQASTUL_MAX_LIMIT 16000000 /* of the weight that a group may carry */
+#define NIQASTUL_MAX_TOTAL 96000000 /* of the weights of a net, in rows */
+#define NIQASTUL_MAX_LIMIT 96000000 /* of the weight that a group may carry, in rows */
 #define NIQASTUL_MAX_BLOCKS 1000
 
 /* The answers, in the order in which they are decided: where several refusals apply, the one that stands first here is
@@ -63,8 +66,8 @@ extern "C" {
 enum niqastul_answer {
     NIQASTUL_ACCEPTED = 0,
     NIQASTUL_BAD_COUNT = 1,       /* no vertex, or more than NIQASTUL_MAX_VERTICES */
-    NIQASTUL_WRONG_LENGTH = 2,    /* a table of the wrong length, an edge list of odd length, or no starts of an index,
-                                     which then has no n */
+    NIQASTUL_WRONG_LENGTH = 2,    /* a table of the wrong length, an edge list that is not whole edges, or no starts of
+                                     an index, which then has no n */
     NIQASTUL_BAD_FILE = 6,        /* bytes that are not a file of n records */
     NIQASTUL_BAD_ORDER = 3,       /* an entry of the order is n or more, or repeats */
     NIQASTUL_BAD_LIMIT = 8,       /* a limit or a number of blocks out of range */
@@ -73,10 +76,12 @@ enum niqastul_answer {
                                      a total; starts of an index that do not go from 0 up to the number of its
                                      neighbours without falling */
     NIQASTUL_BAD_VERTEX = 4,      /* an edge names n or more, or a rank asked for is n or more */
-    NIQASTUL_LOOP = 5,            /* both ends of an edge are one vertex; 4 or 5 is that of the first faulty edge */
+    NIQASTUL_LOOP = 5,            /* both ends of an edge are one vertex */
+    NIQASTUL_BAD_ROWS = 32,       /* the rows of an edge are not 1 to NIQASTUL_MAX_ROWS; 4, 5 or 32 is that of the first
+                                     faulty edge, and of that edge the first in this order */
     NIQASTUL_BAD_PARENT = 7,      /* a record's parent is neither absent nor above its vertex */
-    NIQASTUL_FULL = 20,           /* a total above NIQASTUL_MAX_TOTAL, or a list of more than NIQASTUL_MAX_EDGES
-                                     edges */
+    NIQASTUL_FULL = 20,           /* a list of more than NIQASTUL_MAX_EDGES edges, or a total above
+                                     NIQASTUL_MAX_TOTAL */
     NIQASTUL_TOO_HEAVY = 22,      /* a weight above the limit, so that no cutting can hold it */
     NIQASTUL_OTHER_EDGES = 23,    /* edges that have other parents or weights than the net */
     NIQASTUL_RELATED = 31         /* the two ranks are equal, or one stands above the other */
@@ -88,7 +93,7 @@ static inline const char *niqastul_text(uint32_t answer)
     switch (answer) {
     case NIQASTUL_ACCEPTED: return "accepted";
     case NIQASTUL_BAD_COUNT: return "no vertex, or more than 1,000,000";
-    case NIQASTUL_WRONG_LENGTH: return "a table of the wrong length, or an edge list of odd length";
+    case NIQASTUL_WRONG_LENGTH: return "a table of the wrong length, or an edge list that is not whole edges";
     case NIQASTUL_BAD_FILE: return "not whole records, or not as many as the net has vertices";
     case NIQASTUL_BAD_ORDER: return "an entry of the order is out of range or repeats";
     case NIQASTUL_BAD_LIMIT: return "a limit or a number of blocks out of range";
@@ -96,8 +101,9 @@ static inline const char *niqastul_text(uint32_t answer)
     case NIQASTUL_DAMAGED: return "a net or an index whose tables are damaged";
     case NIQASTUL_BAD_VERTEX: return "an edge or a query names a vertex out of range";
     case NIQASTUL_LOOP: return "both ends of an edge are one vertex";
+    case NIQASTUL_BAD_ROWS: return "the rows of an edge are not 1 to 6";
     case NIQASTUL_BAD_PARENT: return "a record's parent is neither absent nor above its vertex";
-    case NIQASTUL_FULL: return "more than 16,000,000 edges in all";
+    case NIQASTUL_FULL: return "more than 16,000,000 edges in a list, or 96,000,000 rows in all";
     case NIQASTUL_TOO_HEAVY: return "a weight above the limit";
     case NIQASTUL_OTHER_EDGES: return "the edges are not those of the net";
     case NIQASTUL_RELATED: return "the two ranks are equal, or one stands above the other";
@@ -107,10 +113,11 @@ static inline const char *niqastul_text(uint32_t answer)
 
 /* RELABEL an edge list from vertex numbers to ranks, by an order: the vertex order[r] has rank r.
  *   reads   order   [n]        each of 0 to n-1 once
- *           edges   [2m]       in vertex numbers
- *   writes  out     [2m]       the same edges in ranks
+ *           edges   [3m]       in vertex numbers
+ *   writes  out     [3m]       the same edges in ranks, with their rows
  *           inverse [n]        work; left holding the rank of each vertex, by its number
- *   refused 1, 2, 3, 4 or 5 at the first faulty edge (in vertex numbers). There is no limit on the number of edges. */
+ *   refused 1, 2, 3, then 4, 5 or 32 at the first faulty edge (in vertex numbers). There is no limit on the number of
+ *           edges. */
 uint32_t niqastul_relabel(const uint32_t *order, size_t order_length,
                           const uint32_t *edges, size_t edges_length,
                           uint32_t *out, size_t out_length,
@@ -123,13 +130,13 @@ uint32_t niqastul_start(uint32_t *parents, size_t parents_length,
                         uint32_t *weights, size_t weights_length);
 
 /* ADD edges to a net, as a whole or not at all. The parents become those of the elimination game on the links of the
- * old forest and the new edges; each edge raises the weight of its lower end by 1.
- *   reads   edges   [2m]       in ranks
+ * old forest and the new edges; each edge raises the weight of its lower end by its rows.
+ *   reads   edges   [3m]       in ranks
  *   writes  parents [n], weights [n]
  *           ends [n], jump [n], lower [n+m]      work; left as zeros
  *           *moved             where the forest moved, or NIQASTUL_ABSENT
- *   refused 1, 2, 30, 4 or 5 at the first faulty edge, 20 (the old total and the new edges together, so
- *           that a list of more than NIQASTUL_MAX_EDGES edges is always refused) */
+ *   refused 1, 2, 30, then 4, 5 or 32 at the first faulty edge, 20 (more than NIQASTUL_MAX_EDGES edges in the list, or
+ *           more than NIQASTUL_MAX_TOTAL of the old total and the rows of the list together) */
 uint32_t niqastul_add(uint32_t *parents, size_t parents_length,
                       uint32_t *weights, size_t weights_length,
                       const uint32_t *edges, size_t edges_length,
@@ -213,7 +220,7 @@ uint32_t niqastul_divide(const uint32_t *parents, size_t parents_length,
  * to the last edge if they never are. In another order a vertex may take more or fewer edges; edge_blocks goes along
  * with the list, and everything else stays the same.
  *   reads   parents [n], weights [n]
- *           edges   [2m]       in ranks
+ *           edges   [3m]       in ranks
  *   writes  carried [n], top [n], block [n], block_loads [blocks]      as niqastul_divide
  *           edge_blocks [m]    the block of each edge
  *           reach   [n]        the number of vertices above a vertex that have an edge to it or to a vertex that it is
@@ -226,8 +233,8 @@ uint32_t niqastul_divide(const uint32_t *parents, size_t parents_length,
  *           *volume            the sum of (block_count - 1) over the vertices with an edge, never above the bound
  *           *quotient, *remainder     the even share: the total of the weights divided by blocks. quotient * blocks +
  *                              remainder is the total, and remainder is below blocks
- *   refused 1, 2 (block_loads against the number of blocks as given), 8, 30 (of the net), 4 or 5 at the first faulty
- *           edge, 20 (more than NIQASTUL_MAX_EDGES edges), 22, 23
+ *   refused 1, 2 (block_loads against the number of blocks as given), 8, 30 (of the net), then 4, 5 or 32 at the first
+ *           faulty edge, 20 (more than NIQASTUL_MAX_EDGES edges), 22, 23
  * The exception: refused with 23, it leaves the net of the edges in compared_parents and compared_weights, and zeros in
  * the work tables. */
 uint32_t niqastul_report(const uint32_t *parents, size_t parents_length,
@@ -259,14 +266,14 @@ uint32_t niqastul_report(const uint32_t *parents, size_t parents_length,
  * are in separate trees.
  *   reads   parents [n], weights [n]
  *           one, other         ranks
- *           edges   [2m]       in ranks
+ *           edges   [3m]       in ranks
  *   writes  separator [n]      its first *count entries: the vertices above both, by rising rank; the rest is as it was
  *           compared_parents [n], compared_weights [n]       end holding the net of the edges
  *           ends [n], jump [n], lower [n+m]      work; left as zeros
  *           *count             how many vertices stand above both
  *           *lowest            the lowest of them, or NIQASTUL_ABSENT if there are none
- *   refused 1, 2, 30 (of the net), 4 (one or other is n or more, before any edge is looked at), 4 or 5 at the first
- *           faulty edge, 20 (more than NIQASTUL_MAX_EDGES edges), 23, 31
+ *   refused 1, 2, 30 (of the net), 4 (one or other is n or more, before any edge is looked at), then 4, 5 or 32 at the
+ *           first faulty edge, 20 (more than NIQASTUL_MAX_EDGES edges), 23, 31
  * The exception: refused with 23 or 31, it leaves the net of the edges in compared_parents and compared_weights, and
  * zeros in the work tables. */
 uint32_t niqastul_separate(const uint32_t *parents, size_t parents_length,
@@ -286,14 +293,19 @@ uint32_t niqastul_separate(const uint32_t *parents, size_t parents_length,
 /* INDEX an edge list, given in two parts, an old list and an added one: the index is that of the old edges followed by
  * the added ones, as one list would give it. Each edge stands in the runs of both its ends. No index of the old edges
  * is needed, and what the two tables held before does not matter.
- *   reads   old_edges, added   [2m together], in ranks; either may be empty
+ *   reads   old_edges, added   [3m together], in ranks, each whole edges; either may be empty
  *   writes  starts [n+1], neighbours [2m]
- *   refused 2 (no starts), 1, 2, 4 or 5 at the first faulty edge, the old before the added, 20 (more than
+ *   refused 2 (no starts), 1, 2, then 4, 5 or 32 at the first faulty edge, the old before the added, 20 (more than
  *           NIQASTUL_MAX_EDGES edges, old and added together) */
 uint32_t niqastul_index(const uint32_t *old_edges, size_t old_edges_length,
                         const uint32_t *added, size_t added_length,
                         uint32_t *starts, size_t starts_length,
                         uint32_t *neighbours, size_t neighbours_length);
+
+static inline size_t niqastul_index_neighbours(size_t old_edges_length, size_t added_length)
+{
+    return 2 * (old_edges_length / NIQASTUL_STRIDE + added_length / NIQASTUL_STRIDE);
+}
 
 /* QUERY an index for the run of a rank: neighbours[*first] and what follows, *count entries in all. It tests all
  * starts, and reads no neighbour.
@@ -488,7 +500,7 @@ static inline struct niqastul_separate_tables niqastul_separate_in(void *memory,
 /* The tables of an index of so many vertices and of two lists. */
 static inline size_t niqastul_index_size(size_t vertices, struct niqastul_edges old_edges, struct niqastul_edges added)
 {
-    return (vertices + 1 + old_edges.length + added.length) * sizeof(uint32_t);
+    return (vertices + 1 + niqastul_index_neighbours(old_edges.length, added.length)) * sizeof(uint32_t);
 }
 
 static inline struct niqastul_index_tables niqastul_index_in(void *memory, size_t vertices,
@@ -499,7 +511,7 @@ static inline struct niqastul_index_tables niqastul_index_in(void *memory, size_
     its.starts = (uint32_t *)memory;
     its.neighbours = its.starts + vertices + 1;
     its.vertices = vertices;
-    its.length = old_edges.length + added.length;
+    its.length = niqastul_index_neighbours(old_edges.length, added.length);
     return its;
 }
 

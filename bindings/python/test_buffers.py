@@ -21,7 +21,7 @@ from niqastul import ABSENT, Index, Net, calls, relabel
 
 HERE = pathlib.Path(__file__).resolve().parent
 
-EDGES = [0, 2, 0, 4, 1, 3, 1, 4, 2, 5, 0, 2]
+EDGES = [0, 2, 1, 0, 4, 1, 1, 3, 1, 1, 4, 1, 2, 5, 1, 0, 2, 1]
 
 
 # ---- The calls ----
@@ -48,12 +48,12 @@ def grown(edges):
 # the table's sort: `!` a net's or index's own that is written, `=` one that is read, `?` an argument, `:` one of bytes.
 Case = collections.namedtuple("Case", "tables call")
 
-OWN, OTHER, ITS_INDEX = grown(EDGES), grown([0, 1, 3, 5]), Index(6, EDGES)
+OWN, OTHER, ITS_INDEX = grown(EDGES), grown([0, 1, 1, 3, 5, 6]), Index(6, EDGES)
 READ = {"parents=": OWN.parents, "weights=": OWN.weights}
 WRITTEN = {"parents!": OWN.parents, "weights!": OWN.weights}
 
 CASES = {
-    "add": Case(WRITTEN | {"edges?": [1, 2, 3, 4, 1, 5]}, lambda p, w, edges: net(p, w).add(edges)),
+    "add": Case(WRITTEN | {"edges?": [1, 2, 1, 3, 4, 6, 1, 5, 3]}, lambda p, w, edges: net(p, w).add(edges)),
     "join": Case(WRITTEN | {"other.parents=": OTHER.parents, "other.weights=": OTHER.weights},
                  lambda p, w, other_p, other_w: net(p, w).join(net(other_p, other_w))),
     "save": Case(READ, lambda p, w: net(p, w).save()),
@@ -62,7 +62,7 @@ CASES = {
     "report": Case(READ | {"edges?": EDGES}, lambda p, w, edges: net(p, w).report(4, 2, edges)),
     "separate": Case(READ | {"edges?": EDGES}, lambda p, w, edges: net(p, w).separate(0, 1, edges)),
     "relabel": Case({"order?": [3, 0, 1, 2, 4, 5], "edges?": EDGES}, relabel),
-    "index": Case({"edges?": EDGES, "added?": EDGES[:4]}, lambda edges, added: vars(Index(6, edges, added))),
+    "index": Case({"edges?": EDGES, "added?": EDGES[:6]}, lambda edges, added: vars(Index(6, edges, added))),
     "neighbours": Case({"starts=": ITS_INDEX.starts, "runs=": ITS_INDEX.runs},
                        lambda starts, runs: list(index(starts, runs).neighbours(0))),
 }
@@ -365,7 +365,7 @@ class Buffers(unittest.TestCase):
     def test_a_table_between_two_that_share_memory(self):
         memory = memoryview(array("I", range(9)))
         with self.assertRaisesRegex(ValueError, "^parents and weights "):
-            net(memory[:6], memory[3:]).add(memory[1:3])
+            net(memory[:6], memory[3:]).add(memory[1:4])
         self.assertEqual(memory.tolist(), list(range(9)))
 
     def test_tables_are_held_while_a_call_runs(self):
@@ -389,7 +389,7 @@ class Buffers(unittest.TestCase):
         its.parents.append(ABSENT)
         self.assertEqual(outcome(its.add, [EDGES]).number, 2)
         its.weights.append(0)
-        self.assertEqual(its.add([0, 6]), 5)
+        self.assertEqual(its.add([0, 6, 1]), 5)
         del its.parents[:6], its.weights[:6]
         self.assertEqual(len(its.save()), 8)
         its.parents, its.weights = array("I"), array("I")
@@ -423,7 +423,7 @@ class Buffers(unittest.TestCase):
     def test_entries_that_fit_no_word(self):
         for number in (-1, 2 ** 32, 2 ** 70):
             with self.assertRaisesRegex(OverflowError, "^edges: "):
-                OWN.add([0, number])
+                OWN.add([0, 1, number])
 
     def test_too_many_vertices_take_no_memory(self):
         tracemalloc.start()

@@ -3,7 +3,7 @@
 import itertools
 import random
 
-from oracle.forest import ABSENT
+from oracle.forest import ABSENT, ties_of
 from support import nets
 from support.accepted import added, joined, lend, start
 from support.harness import test
@@ -26,8 +26,7 @@ def every_graph(t):
         for chosen in range(2 ** (n * (n - 1) // 2)):
             rng = random.Random(chosen)
             pairs = [pair for place, pair in enumerate(itertools.combinations(range(n), 2)) if chosen >> place & 1]
-            rng.shuffle(pairs)
-            add(t, empty, nets.flat(pair if rng.random() < 0.5 else pair[::-1] for pair in pairs), n, chosen)
+            add(t, empty, nets.flat(nets.another_order(rng, nets.with_rows(rng, pairs))), n, chosen)
 
 
 def sound_tables(n):
@@ -42,8 +41,8 @@ def every_pair_of_forests(t):
         tables = [list(parents) for parents in sound_tables(n)]
         for place, one in enumerate(tables):
             weights = [(place + x) % 3 for x in range(n)]
-            for edge in itertools.permutations(range(n), 2):
-                add(t, (one, weights), list(edge), n, place)
+            for number, (a, b) in enumerate(itertools.permutations(range(n), 2)):
+                add(t, (one, weights), [a, b, 1 + (place + number) % 6], n, place)
             for other in tables:
                 join(t, (one, weights), (other, weights[::-1]), n, place)
 
@@ -85,7 +84,7 @@ def grow_three_ways(t, rng, n, ties, context):
     add(t, nets.sound_net(rng, n), nets.flat(ties), context)
 
 
-@test(at_least=65_000)
+@test(at_least=85_000)
 def rising_lists(t):
     """Lists by rising upper end: the first of a net, onto the net of it, with an edge at the end that falls, and with a
     fault there."""
@@ -98,7 +97,8 @@ def rising_lists(t):
         whole = add(t, empty, nets.flat(ties), seed)
         add(t, whole, nets.flat(ties), seed)
         add(t, empty, nets.flat(ties + ties[:1]), seed)
-        for number, fault in ((4, (0, n)), (4, (ABSENT, ABSENT)), (5, (n - 1, n - 1))):
+        for number, fault in ((4, (0, n, 0)), (4, (ABSENT, ABSENT, 1)), (5, (n - 1, n - 1, 0)), (32, (0, n - 1, 0)),
+                              (32, (n - 1, 0, 7))):
             t.same(lend(t, "add", empty, {"edges": nets.flat(ties + [fault])}, seed)[0], number, seed)
 
 
@@ -111,5 +111,6 @@ def relabelled(t):
         given = {"order": order, "edges": edges, "out": nets.garbage(rng, len(edges)), "inverse": nets.garbage(rng, n)}
         number, after = CALLS["relabel"].run(t, given, seed)
         t.same(number, 0, seed)
-        t.same([order[rank] for rank in after["out"]], edges, seed)
+        marks = [(order[a], order[b], rows) for a, b, rows in ties_of(after["out"])]
+        t.same(marks, ties_of(edges), seed)
         t.same(after["inverse"], inverse_of(given)["inverse"], seed)

@@ -9,12 +9,12 @@ from support.history import History
 # the answers that histories have to meet
 MET = {
     "start": (0, 1, 2),
-    "add": (0, 1, 2, 30, 4, 5, 20),
+    "add": (0, 1, 2, 30, 4, 5, 32, 20),
     "join": (0, 1, 2, 21, 30, 20),
     "save": (0, 1, 2, 30),
     "read": (0, 1, 2, 6, 7, 20),
-    "separate": (0, 1, 2, 30, 4, 5, 23, 31),
-    "index": (0, 1, 2, 4, 5),
+    "separate": (0, 1, 2, 30, 4, 5, 32, 23, 31),
+    "index": (0, 1, 2, 4, 5, 32),
     "query": (0, 1, 30, 4),
 }
 

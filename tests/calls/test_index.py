@@ -5,7 +5,7 @@ import itertools
 import random
 from array import array
 
-from oracle.forest import ABSENT, ties_of
+from oracle.forest import ABSENT, tie_count, ties_of
 from oracle.neighbours import index_of, run_of
 from support import inputs, nets
 from support.arrays import made_index
@@ -40,7 +40,7 @@ def stands_twice(t, n, edges, starts, neighbours, *context):
     once, and each edge takes the next entry of the run of each end. In the end all runs are used up, so each entry
     belongs to one edge."""
     next_of = list(starts[:n])
-    for a, b in edges:
+    for a, b, _ in edges:
         for end, other in ((a, b), (b, a)):
             t.true(next_of[end] < starts[end + 1] and neighbours[next_of[end]] == other, end, other, *context)
             next_of[end] += 1
@@ -70,7 +70,8 @@ def every_small_list(t):
         edges = list(itertools.permutations(range(n), 2))
         for count in range(4):
             for chosen in itertools.product(edges, repeat=count):
-                made(t, random.Random(n), n, nets.flat(chosen))
+                rng = random.Random(n)
+                made(t, rng, n, nets.flat(nets.with_rows(rng, chosen)))
 
 
 @test(at_least=3_000)
@@ -82,7 +83,7 @@ def added_lists(t):
         n = rng.randrange(2, 12)
         flat = nets.flat(lists(rng, n))
         whole = made(t, rng, n, flat)
-        for place in range(0, len(flat) + 1, 2):
+        for place in range(0, len(flat) + 1, 3):
             t.same(made(t, rng, n, flat[:place], flat[place:]), whole, seed, place)
 
 
@@ -94,11 +95,12 @@ def built_again(t):
     n, flat, starts, neighbours = 30, [], [5] * 31, []
     for _ in range(20):
         added = nets.flat(nets.ties(rng, n, nets.sparse))
-        given = {"old_edges": flat, "added": added, "starts": starts, "neighbours": neighbours + [9] * len(added)}
+        room = neighbours + [9] * (2 * tie_count(added))
+        given = {"old_edges": flat, "added": added, "starts": starts, "neighbours": room}
         _, after = INDEX.run(t, given)
         flat, starts, neighbours = flat + added, after["starts"], after["neighbours"]
         t.same((starts, neighbours), index_of(n, ties_of(flat)))
-    t.true(len(flat) > 300, len(flat))
+    t.true(tie_count(flat) > 150, len(flat))
 
 
 @test(at_least=200_000)
@@ -108,10 +110,10 @@ def large_nets(t):
     for seed, shape in enumerate((nets.grid, nets.tall, nets.star, nets.power_law, nets.dense, nets.tree)):
         rng = random.Random(seed)
         n = rng.randrange(4_000, 8_000)
-        edges = [tuple(edge) for edge in shape(rng, n)]
+        edges = nets.with_rows(rng, shape(rng, n))
         for ordered in (sorted(edges), sorted(edges)[::-1], rng.sample(edges, len(edges))):
             flat = nets.flat(ordered)
-            place = 2 * rng.randrange(len(edges))
+            place = 3 * rng.randrange(len(edges))
             number, *index = made_index(n, array("I", flat[:place]), array("I", flat[place:]))
             t.same(number, 0, shape.__name__)
             stands_twice(t, n, ordered, *index, shape.__name__)

@@ -4,8 +4,8 @@ history; and the answer of each way in which edges come into a forest."""
 import collections
 import random
 
-from oracle import calls
-from oracle.forest import ABSENT, loads_of, parents_of
+from oracle import calls, forest
+from oracle.forest import ABSENT
 from support import nets
 from support.accepted import added, joined
 from support.harness import test
@@ -37,7 +37,7 @@ class Viewed(History):
     def edges(self, net):
         """Few of them as a rule, so that a net moves often."""
         flat = super().edges(net)
-        return flat[:2 * self.rng.randrange(4)] if self.rng.random() < 0.6 else flat
+        return flat[:3 * self.rng.randrange(4)] if self.rng.random() < 0.6 else flat
 
     def call(self, name, net, **others):
         before = self.nets[net][0]
@@ -94,7 +94,7 @@ def side_by_side(chains):
 
 
 def net_of(edges):
-    return parents_of(VERTICES, edges), loads_of(VERTICES, edges)
+    return forest.net_of(VERTICES, edges)
 
 
 # Edges that are added to four chains of 100 vertices each, and where the forest moves
@@ -120,11 +120,13 @@ MOVES = {
 @test(at_least=1_700)
 def each_way(t):
     """A short list, also from its end, the same made longer by repeats, and the net of it joined: each moves the forest
-    at the same rank. Made again, none moves anything, and the weights rise."""
-    for what, (edges, moved) in MOVES.items():
+    at the same rank. Made again, none moves anything, and the weights rise, by as many rows."""
+    for what, (pairs, moved) in MOVES.items():
+        edges = nets.with_rows(random.Random(what), pairs)
         reverse = edges[::-1]
         lists = [edges, reverse, edges * SHORT] + [edges + reverse[:1] * (m - len(edges)) for m in (SHORT - 1, SHORT)]
-        ways = [(added, nets.flat(its), len(its)) for its in lists] + [(joined, net_of(edges), len(edges))]
+        ways = [(added, nets.flat(its), calls.rows_of(its)) for its in lists]
+        ways += [(joined, net_of(edges), calls.rows_of(edges))]
         for call, lent, more in ways:
             net, at = call(t, side_by_side(4), lent, what)
             t.same(at, moved, what, more)
@@ -157,7 +159,7 @@ def lists_of_all_lengths(t):
         net = nets.sound_net(rng, n) if seed % 4 == 0 else (parents, [0] * n)
         for m in (1, 2, 5, n // 8 - 1, n // 8, n // 8 + 1, n):
             low = rng.randrange(n - 2)
-            edges = nets.flat(rng.sample(range(low, n), 2) for _ in range(m))
+            edges = nets.flat(nets.with_rows(rng, (rng.sample(range(low, n), 2) for _ in range(m))))
             after, moved = added(t, net, edges, seed, m)
             t.true(moved >= low, "nothing below the edges moves", seed, m)
             t.same(added(t, after, edges, seed, m)[1], ABSENT, seed, m)

@@ -15,20 +15,22 @@ from support.library import CALLS
 # the refusals that the documents give to each call; 20 of a report, of a separator and of an index takes 16,000,001
 # edges and is in test_limits
 NUMBERS = {
-    "relabel": {1, 2, 3, 4, 5},
+    "relabel": {1, 2, 3, 4, 5, 32},
     "start": {1, 2},
-    "add": {1, 2, 30, 4, 5, 20},
+    "add": {1, 2, 30, 4, 5, 32, 20},
     "join": {1, 2, 21, 30, 20},
     "save": {1, 2, 30},
     "read": {1, 2, 6, 7, 20},
     "divide": {1, 2, 8, 30, 22},
-    "report": {1, 2, 8, 30, 4, 5, 22, 23},
-    "separate": {1, 2, 30, 4, 5, 23, 31},
-    "index": {1, 2, 4, 5},
+    "report": {1, 2, 8, 30, 4, 5, 32, 22, 23},
+    "separate": {1, 2, 30, 4, 5, 32, 23, 31},
+    "index": {1, 2, 4, 5, 32},
     "query": {1, 2, 30, 4},
 }
 
-PLACE = {number: min(place, calls.ORDER.index(4)) if number == 5 else place for place, number in enumerate(calls.ORDER)}
+# the place of each in the order; those of an edge share one
+PLACE = {number: place for place, number in enumerate(calls.ORDER)}
+PLACE |= {number: PLACE[4] for number in (5, 32)}
 
 
 @test(at_least=4_000)
@@ -112,6 +114,21 @@ def tiny(rng, name, n):
     return given | {table: [9] * length for table, length in CALLS[name].work_lengths(given).items()}
 
 
+@test(at_least=550)
+def full_totals(t):
+    """A total of 96,000,000 rows is no damage in any call that works from a net, and one row more is 30 in each. What
+    has no edges to be compared with is then 23."""
+    for name, call in CALLS.items():
+        number = 23 if "compared_weights" in call.kinds else 0
+        for net in ("weights", "other_weights"):
+            if net not in call.kinds or name in ("start", "read"):
+                continue
+            for more, first in itertools.product((0, 1), (0, 1, calls.MAX_TOTAL // 2, calls.MAX_TOTAL)):
+                given = tiny(random.Random(first), name, 2) | {"limit": calls.MAX_LIMIT}
+                given[net] = [first, calls.MAX_TOTAL - first + more]
+                t.same(call.run(t, given, net, first)[0], 30 if more else number, name, net, first)
+
+
 @test(at_least=30_000)
 def random_tables(t):
     """Tables of arbitrary numbers of arbitrary small lengths."""
@@ -121,6 +138,6 @@ def random_tables(t):
             given = {}
             for table, kind in call.kinds.items():
                 values = (0, 1, 2, 3, 4, ABSENT) if table != "bytes" else (0, 1, 2, 255)
-                length = 1 if kind == "cell" else rng.choice((0, 2, 2, 2, 3, 3, 4))
+                length = 1 if kind == "cell" else rng.choice((0, 2, 2, 2, 3, 3, 3, 4, 6))
                 given[table] = rng.choice(values) if kind == "number" else rng.choices(values, k=length)
             call.run(t, copy.deepcopy(given), seed)

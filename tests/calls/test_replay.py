@@ -14,15 +14,15 @@ HISTORIES = [(seed, 1 + seed % 12, 60) for seed in range(1, 301)] + LONG
 # the answers that they have to meet; the tables of a struct fit each other, so that nothing is wrong with a start
 MET = {
     "start": (0,),
-    "add": (0, 2, 30, 4, 5, 20),
+    "add": (0, 2, 30, 4, 5, 32, 20),
     "join": (0, 2, 21, 30, 20),
     "save": (0, 2, 30),
     "read": (0, 6, 7, 20),
-    "relabel": (0, 2, 3, 4, 5),
+    "relabel": (0, 2, 3, 4, 5, 32),
     "divide": (0, 2, 8, 30, 22),
-    "report": (0, 2, 30, 5, 22, 23),
-    "separate": (0, 2, 30, 4, 5, 23, 31),
-    "index": (0, 2, 4, 5),
+    "report": (0, 2, 30, 4, 5, 32, 22, 23),
+    "separate": (0, 2, 30, 4, 5, 32, 23, 31),
+    "index": (0, 2, 4, 5, 32),
     "query": (0, 1, 30, 4),
 }
 

@@ -6,8 +6,9 @@ import itertools
 import random
 from array import array
 
+from oracle import calls
 from oracle.between import marks_above_both, related
-from oracle.forest import ABSENT, parents_of, ties_of
+from oracle.forest import ABSENT, net_of, ties_of
 from support import inputs, nets
 from support.arrays import a_net, separate
 from support.chains import SHAPES, above_by_chains, comb, neighbours_of, parted, two_paths, two_trees
@@ -53,7 +54,8 @@ def every_small_graph(t):
     for n in range(1, 6):
         edges = list(itertools.combinations(range(n), 2))
         for chosen in itertools.product((False, True), repeat=len(edges)):
-            graph, rng = list(itertools.compress(edges, chosen)), random.Random(repr(chosen))
+            rng = random.Random(repr(chosen))
+            graph = nets.with_rows(rng, itertools.compress(edges, chosen))
             for one, other in itertools.product(range(n), repeat=2):
                 number, separator = asked(t, rng, n, graph, one, other)
                 met[number, len(separator)] += 1
@@ -69,9 +71,9 @@ def many_nets(t):
         rng, shape = random.Random(seed), SHAPES[seed % len(SHAPES)]
         n = rng.randrange(2, 40)
         edges = nets.ties(rng, n, shape)
-        one, other = ranks_of(rng, n, parents_of(n, edges))
+        one, other = ranks_of(rng, n, net_of(n, edges)[0])
         answer = asked(t, rng, n, edges, one, other, seed)
-        shuffled = [edge if rng.random() < 0.5 else edge[::-1] for edge in rng.sample(edges, len(edges))]
+        shuffled = nets.another_order(rng, edges)
         t.same(asked(t, rng, n, shuffled, other, one, seed), answer, "either way round", seed)
         met[shape.__name__, answer[0], len(answer[1]) > 2] += 1
     wanted = [(shape.__name__, 31, False) for shape in SHAPES]
@@ -100,7 +102,7 @@ def large_nets(t):
         rng = random.Random(seed)
         n = rng.randrange(1_000, 4_000)
         order = rng.sample(range(n), n) if seed % 2 else range(n)
-        edges = [(order[a], order[b]) for a, b in shape(rng, n)]
+        edges = nets.with_rows(rng, ((order[a], order[b]) for a, b in shape(rng, n)))
         flat, beside = array("I", nets.flat(edges)), neighbours_of(edges)
         parents, weights = a_net(n, flat)
         for _ in range(30):
@@ -133,7 +135,7 @@ def left_after_a_refusal(t):
         t.same((entries(after, COMPARED), entries(after, WORK)), (compared, work), what)
         t.same(entries(after, TOLD), entries(given, TOLD), what)
         met[answer] += 1
-    t.same(set(met), {1, 2, 30, 4, 5, 23, 31})
+    t.same(set(met), {1, 2, 30, 4, 5, 32, 23, 31})
 
 
 # of the net of a path 0-1, 1-2 and of a vertex without edges: what is wrong with an input, one thing more in each than
@@ -141,12 +143,13 @@ def left_after_a_refusal(t):
 WRONGS = [
     (1, {"parents": []}),
     (2, {"separator": [7] * 3}),
-    (30, {"weights": [1, 1, 0, 16_000_000]}),
+    (30, {"weights": [2, 5, 0, calls.MAX_TOTAL - 6]}),
     (4, {"one": 4}),
-    (5, {"edges": [1, 1, 4, 4]}),
-    (23, {"edges": [0, 1, 0, 2]}),
+    (5, {"edges": [1, 1, 0, 4, 4, 1]}),
+    (32, {"edges": [0, 1, 0, 1, 1, 1]}),
+    (23, {"edges": [0, 1, 2, 0, 2, 5]}),
     (31, {"one": 0, "other": 2}),
-    (0, {"parents": [1, 2, ABSENT, ABSENT], "weights": [1, 1, 0, 0], "one": 0, "other": 3, "edges": [0, 1, 1, 2],
+    (0, {"parents": [1, 2, ABSENT, ABSENT], "weights": [2, 5, 0, 0], "one": 0, "other": 3, "edges": [0, 1, 2, 1, 2, 5],
          "separator": [7] * 4, "compared_parents": [7] * 4, "compared_weights": [7] * 4, "count": [7], "lowest": [7],
          "ends": [7] * 4, "jump": [7] * 4, "lower": [7] * 6}),
 ]

@@ -29,14 +29,19 @@ def fits(t, share, weights, k, *context):
 
 
 def totals(k):
-    """No edge, and as many as k or twice k, one more and one less: there the quotient changes."""
+    """No row, and as many as k or twice k, one more and one less: there the quotient changes."""
     return sorted({total for multiple in (k, 2 * k) for total in (0, multiple - 1, multiple, multiple + 1)})
 
 
-def an_edge_list(rng, total):
-    """How many vertices, and so many edges among them."""
-    n = rng.randrange(2, 10)
-    return n, rng.choices(nets.complete(rng, n), k=total)
+def an_edge_list(rng, total, least=1):
+    """How many vertices, and edges among them of so many rows in all; each but the last has at least so many."""
+    n, edges = rng.randrange(2, 10), []
+    pairs = nets.complete(rng, n)
+    while total:
+        rows = min(total, rng.randint(least, calls.MAX_ROWS))
+        edges.append((*rng.choice(pairs), rows))
+        total -= rows
+    return n, edges
 
 
 @test(at_least=2_200)
@@ -51,17 +56,21 @@ def next_to_multiples(t):
             fits(t, after["quotient"] + after["remainder"], weights, k, total)
 
 
-@test(at_least=5)
+@test(at_least=6)
 def largest_total(t):
-    """16,000,000 edges, with a remainder and without; then one edge fewer."""
+    """16,000,000 edges of 6 rows, with a remainder and without; then one row fewer, and one edge fewer."""
     edges, (parents, weights) = a_full_list()
-    limit = max(weights)
-    for k, share in ((1, [16_000_000, 0]), (7, [2_285_714, 2]), (999, [16_016, 16]), (1000, [16_000, 0])):
+    limit, full = max(weights), weights[1]
+    for k, share in ((1, [96_000_000, 0]), (7, [13_714_285, 5]), (999, [96_096, 96]), (1000, [96_000, 0])):
         number, after = report((parents, weights), edges, limit, k)
         t.same((number, figures(after)[2:]), (0, share), k)
-    weights[1] -= 1
-    number, after = report((parents, weights), edges[:-2], limit, 1000)
-    t.same((number, figures(after)[2:]), (0, [15_999, 999]))
+    edges[-1], weights[1] = 5, full - 1
+    number, after = report((parents, weights), edges, limit, 1000)
+    t.same((number, figures(after)[2:]), (0, [95_999, 999]), "one row fewer")
+    del edges[-3:]
+    weights[1] = full - 6
+    number, after = report((parents, weights), edges, limit, 1000)
+    t.same((number, figures(after)[2:]), (0, [95_999, 994]), "one edge fewer")
 
 
 class Shared(Asked):
@@ -91,18 +100,18 @@ def last_line(t, printed, k, *context):
     fits(t, [int(word) for word in share.groups()], [int(line.split()[3]) for line in lines], k, *context)
 
 
-def files_of(rng, total, k):
+def files_of(rng, total, k, least=1):
     """The bytes of marks.ord, ties.rec and want.rec; the limit holds all."""
-    n, edges = an_edge_list(rng, total)
+    n, edges = an_edge_list(rng, total, least)
     return file_of(*rng.sample(range(n), n)), file_of(*nets.flat(edges)), file_of(max(1, total), k)
 
 
 @test(at_least=430)
 def printed_by_blocks(t):
-    """The same totals on files, and as many ties as `blocks` takes."""
+    """The same totals on files, and as many ties as `blocks` takes, of as many rows as they may have."""
     for k in BLOCKS:
-        for total in (*totals(k), 4000):
-            files = files_of(random.Random(repr((k, total))), total, k)
+        for total, least in (*((total, 1) for total in totals(k)), (24_000, calls.MAX_ROWS)):
+            files = files_of(random.Random(repr((k, total))), total, k, least)
             last_line(t, program.run(t, files, k, total), k, total)
 
 

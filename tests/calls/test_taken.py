@@ -7,7 +7,7 @@ import random
 from array import array
 
 from oracle import calls
-from oracle.forest import loads_of
+from oracle.forest import loads_of, pairs_of
 from support import nets
 from support.accepted import reported
 from support.arrays import a_net, report
@@ -22,7 +22,7 @@ def walked(t, edges, k, after, *context):
     fewer does not. Answers for each how its walk ends: never with all k, or with an edge that leads up or down, its
     last or an earlier one."""
     for x, (taken, count) in enumerate(zip(after["edges_taken"], after["block_count"])):
-        its = [(edge, block) for edge, block in zip(edges, after["edge_blocks"]) if x in edge]
+        its = [(edge, block) for edge, block in zip(pairs_of(edges), after["edge_blocks"]) if x in edge]
         blocks = [block for _, block in its]
         t.same((len(set(blocks[:taken])), len(set(blocks))), (count, count), x, *context)
         if count < k:
@@ -35,10 +35,10 @@ def walked(t, edges, k, after, *context):
 
 def between(rng, k):
     """A vertex above about as many leaves as there are blocks, and below one or two others: how many vertices, and the
-    edges."""
-    hub, above = max(1, k + rng.choice((-1, -1, 0, 3))), rng.randrange(1, 3)
-    edges = [(leaf, hub) for leaf in range(hub)] + [(hub, hub + 1 + place) for place in range(above)]
-    return hub + above + 1, edges
+    edges, which have as many rows each, so that the leaves go round the blocks."""
+    hub, above, rows = max(1, k + rng.choice((-1, -1, 0, 3))), rng.randrange(1, 3), rng.randint(1, calls.MAX_ROWS)
+    pairs = [(leaf, hub) for leaf in range(hub)] + [(hub, hub + 1 + place) for place in range(above)]
+    return hub + above + 1, [(a, b, rows) for a, b in pairs]
 
 
 @test(at_least=150_000)
@@ -51,7 +51,7 @@ def many_nets(t):
         n = rng.randrange(1, 25)
         n, edges = between(rng, min(k, 6)) if seed % 2 else (n, nets.ties(rng, n, rng.choice(nets.SHAPES)))
         edges += rng.choices(edges, k=rng.randrange(len(edges))) if edges and rng.random() < 0.5 else []
-        shuffled = [edge if rng.random() < 0.5 else edge[::-1] for edge in rng.sample(edges, len(edges))]
+        shuffled = nets.another_order(rng, edges)
         limit = max(1, *loads_of(n, edges)) + rng.choice((0, 0, 0, 1, 7))
         one, other = (reported(t, rng, n, its, limit, k, seed) for its in (edges, shuffled))
         for name in one.keys() - ORDERED:
@@ -60,19 +60,27 @@ def many_nets(t):
             met.update((k, end) for end in walked(t, its, k, after, seed))
         differ += one["edges_taken"] != other["edges_taken"]
         if k == 1:
-            t.same(one["edges_taken"], [int(any(x in edge for edge in edges)) for x in range(n)], seed)
+            t.same(one["edges_taken"], [int(any(x in edge for edge in pairs_of(edges))) for x in range(n)], seed)
     each = ("never", *itertools.product(("up", "down"), ("last", "earlier")))
     ends = set(itertools.product(range(2, 7), each))
     t.true(all(met[end] >= 5 for end in ends), {end: met[end] for end in ends})
     t.true(met[1000, "never"] > 1000 and differ > 300, met, differ)
 
 
+# the rows of each edge of the nets below, so that no weight is a number of edges
+ROWS = 5
+
+
+def of_rows(pairs):
+    return [(a, b, ROWS) for a, b in pairs]
+
+
 def grown(t, n, edges):
     """The net of edges, and their list, each third edge the other way round."""
-    turned = [edge if place % 3 else edge[::-1] for place, edge in enumerate(edges)]
+    turned = [edge if place % 3 else nets.turned(edge) for place, edge in enumerate(edges)]
     flat = array("I", nets.flat(turned))
     net = a_net(n, flat)
-    t.same(sum(net[1]), len(edges))
+    t.same(sum(net[1]), ROWS * len(edges))
     return net, flat
 
 
@@ -81,8 +89,8 @@ def thousand_blocks(t):
     """Leaves that go round 1,000 blocks: their top meets all with its last edge, with an earlier one or, one leaf
     short, never."""
     for leaves, taken in ((999, 999), (1000, 1000), (1200, 1000)):
-        net, edges = grown(t, leaves + 1, [(leaf, leaves) for leaf in range(leaves)])
-        number, after = report(net, edges, 1, 1000)
+        net, edges = grown(t, leaves + 1, of_rows((leaf, leaves) for leaf in range(leaves)))
+        number, after = report(net, edges, ROWS, 1000)
         t.same((number, list(after["edge_blocks"])), (0, [leaf % 1000 for leaf in range(leaves)]), leaves)
         t.same(list(after["edges_taken"]), [1] * leaves + [taken], leaves)
 
@@ -92,12 +100,14 @@ EDGES, FEW = 1_000_000, 100
 LEAVES = EDGES // 2
 
 
-def busy(t, n, hub, edges, limit):
-    """A vertex with a million edges, which are all edges of the net: the hundredth completes the blocks."""
+def busy(t, n, hub, pairs, limit):
+    """A vertex with a million edges, which are all edges of the net: the hundredth completes the blocks. The limit is a
+    number of edges."""
+    edges = of_rows(pairs)
     net, flat = grown(t, n, edges)
-    number, after = report(net, flat, limit, BLOCKS)
+    number, after = report(net, flat, ROWS * limit, BLOCKS)
     blocks = after["edge_blocks"]
-    t.same((number, len(edges), sum(hub in edge for edge in edges)), (0, EDGES, EDGES))
+    t.same((number, len(pairs), sum(hub in pair for pair in pairs)), (0, EDGES, EDGES))
     t.same([len(set(blocks[:count])) for count in (FEW - 1, FEW, EDGES)], [BLOCKS - 1, BLOCKS, BLOCKS])
     t.same((after["block_count"][hub], after["edges_taken"][hub]), (BLOCKS, FEW))
     t.true(after["block_count"].tolist() == calls.block_counts_of(n, edges, blocks), "block counts")

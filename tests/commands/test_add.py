@@ -3,7 +3,8 @@
 import itertools
 import random
 
-from oracle import calls
+from oracle import blocks, calls
+from oracle.forest import ties_of
 from support import nets
 from support.broken import broken
 from support.files import ORDER, TIES, WHOLE, file_of, link_file, moved_line
@@ -20,7 +21,7 @@ def refusal(marks, link, ties):
     n, numbers = len(marks) // 4, calls.words(link)
     if calls.bad_count(n):
         return 1
-    if len(marks) % 4 or len(link) != 8 * n or len(ties) % 8:
+    if len(marks) % 4 or len(link) != 8 * n or len(ties) % blocks.TIE:
         return 6
     if calls.bad_order(calls.words(marks)):
         return 3
@@ -28,7 +29,7 @@ def refusal(marks, link, ties):
         return calls.fault(n, calls.words(ties))
     if calls.breaks_rule_of_7(numbers[0::2]):
         return 7
-    return 20 if sum(numbers[1::2]) + len(ties) // 8 > calls.MAX_TOTAL else 0
+    return 20 if sum(numbers[1::2]) + calls.rows_of(ties_of(calls.words(ties))) > calls.MAX_TOTAL else 0
 
 
 def added(marks, link, ties):
@@ -82,12 +83,14 @@ def refusals(t):
     faults = [(number, fault | {"net_link": file_of(0, 0) * records}) for number, fault in FAULTS
               for records in [len(fault.get("marks_ord", WHOLE["marks_ord"])) // 4]]
     faults += [(6, {"net_link": link}) for link in (b"", net[:-1], net[:-8], net + b"\0", net + net[:8])]
-    faults += [(6, {"net_link": net[:-8], "marks_ord": file_of(0, 0, 1, 2, 3, 4), "ties_rec": file_of(0, 0)}),
+    faults += [(6, {"net_link": net[:-8], "marks_ord": file_of(0, 0, 1, 2, 3, 4), "ties_rec": file_of(0, 0, 1)}),
                (7, {"net_link": file_of(0, 0) + net[8:]}),
                (7, {"net_link": file_of(0, calls.MAX_TOTAL + 1) + net[8:]}),
                (20, {"net_link": file_of(1, calls.MAX_TOTAL + 1) + full_net[8:], "ties_rec": b""}),
                (20, {"net_link": full_net}),
-               (5, {"net_link": full_net, "ties_rec": file_of(0, 1, 0, 1, 2, 2)}),
+               (20, {"net_link": full_net, "ties_rec": file_of(0, 1, 2)}),
+               (5, {"net_link": full_net, "ties_rec": file_of(0, 1, 1, 0, 1, 1, 2, 2, 1)}),
+               (32, {"net_link": full_net, "ties_rec": file_of(0, 1, 1, 0, 1, 1, 0, 1, 7)}),
                (1, {"net_link": b"", "marks_ord": b""})]
     with a_folder() as folder:
         for number, fault in faults:
@@ -96,7 +99,8 @@ def refusals(t):
                 untouched(t, folder, COMMAND, number, str(fault)[:200])
         folder.write(**WHOLE, net_link=full_net, out_link=None)
         untouched(t, folder, (*COMMAND[:-1], "net.link"), 20, "the file that would be replaced")
-        t.same(accepted(t, folder, (WHOLE["marks_ord"], full_net, file_of(0, 1)), "net.link"), "moved 1\n", "just full")
+        files = WHOLE["marks_ord"], full_net, file_of(0, 1, 1)
+        t.same(accepted(t, folder, files, "net.link"), "moved 1\n", "just full")
 
 
 @test(at_least=900)
@@ -108,9 +112,10 @@ def broken_files(t):
             rng = random.Random(seed)
             n = rng.randrange(1, 6)
             parents, loads = nets.sound_net(rng, n)
-            loads[0] = calls.MAX_TOTAL - sum(loads[1:]) - rng.randrange(8) if seed % 4 == 0 else loads[0]
+            loads[0] = calls.MAX_TOTAL - sum(loads[1:]) - rng.randrange(28) if seed % 4 == 0 else loads[0]
+            faulty = rng.choice((file_of(0, 0, 1), file_of(0, 1, 0))) * (seed % 10 == 0)
             files = [file_of(*rng.sample(range(n), n)), bytes(calls.link_file(parents, loads)),
-                     file_of(*nets.flat(nets.ties(rng, n, rng.choice(nets.SHAPES)))) + file_of(0, 0) * (seed % 10 == 0)]
+                     file_of(*nets.flat(nets.ties(rng, n, rng.choice(nets.SHAPES)))) + faulty]
             for _ in range(rng.randrange(1, 3)):
                 files = broken(rng, files, values=5)
             number = refusal(*files)
@@ -120,7 +125,7 @@ def broken_files(t):
                 untouched(t, folder, COMMAND, number, seed)
             else:
                 accepted(t, folder, files, "out.link", seed)
-    t.same(met, {0, 1, 3, 4, 5, 6, 7, 20})
+    t.same(met, {0, 1, 3, 4, 5, 6, 7, 20, 32})
 
 
 @test(at_least=20)

@@ -6,7 +6,7 @@ import random
 
 from oracle import calls
 from oracle.between import marks_above_both, related
-from oracle.forest import parents_of, ties_of
+from oracle.forest import net_of, ties_of
 from support import nets
 from support.broken import broken_two, refusal_of_marks
 from support.chains import SHAPES, neighbours_of, parted
@@ -21,7 +21,7 @@ COMMAND = ("between", *THREE[:2])
 def printed_by(t, folder, order, flat, marks, *context):
     """The command prints what it must, of an order and of ties in mark numbers, or refuses two marks with 31; answers
     the marks printed, None if refused."""
-    parents = parents_of(len(order), ties_of(calls.translate(order, flat, flat)[1]))
+    parents, _ = net_of(len(order), ties_of(calls.translate(order, flat, flat)[1]))
     ranks, words = [order.index(mark) for mark in marks], (*COMMAND, *map(str, marks))
     if related(parents, *ranks):
         return untouched(t, folder, words, 31, *context)
@@ -70,14 +70,14 @@ def broken_files(t):
             elif printed_by(t, folder, *map(calls.words, given), marks, seed) is None:
                 number = 31
             met[number] += 1
-    t.same(set(met), {0, 1, 3, 4, 5, 6, 31})
+    t.same(set(met), {0, 1, 3, 4, 5, 6, 31, 32})
 
 
 @test(at_least=5)
 def longest_files(t):
-    """16,000,000 ties; one more is 20, for two marks that are one too."""
+    """16,000,000 ties of 6 rows; one more is 20, for two marks that are one too."""
     with a_folder(large=True) as folder:
-        folder.write(marks_ord=file_of(2, 0, 1, 3), ties_rec=file_of(0, 1) * (calls.MAX_TIES - 1) + file_of(1, 2))
+        folder.write(marks_ord=file_of(2, 0, 1, 3), ties_rec=file_of(0, 1, 6) * (calls.MAX_TIES - 1) + file_of(1, 2, 6))
         t.same(folder.run(*COMMAND, "0", "2")[:2], (0, "1\n"))
         t.same(folder.run(*COMMAND, "2", "3")[:2], (0, "none\n"))
         too_long(t, folder, (*COMMAND, "0", "0"), (*COMMAND, "0", "4"))

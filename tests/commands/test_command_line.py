@@ -7,7 +7,7 @@ import subprocess
 import sys
 
 from support import ROOT
-from support.files import ORDER, THREE, TIES, WHOLE, link_file
+from support.files import ORDER, THREE, TIES, WHOLE, file_of, link_file
 from support.folder import PYTHON, a_folder
 from support.harness import test
 
@@ -28,13 +28,14 @@ HELP = {
     "join": ("than in a.link:", "`none moved`"),
 }
 COMMANDS = ("grow", "add", "join", "split", "together", "picture", "neighbours", "busy", "between")
+FORMATS = ("exit status", "ties.rec", "the rows that the tie gives the adjustment, 1 to 6", "1 to 96,000,000")
 
 
 @test(at_least=6)
 def helpful(t):
     """Help needs no library."""
     status, out, _ = ran("-h", NIQASTUL_LIBRARY="/nowhere")
-    t.true(status == 0 and all(word in out for word in (*COMMANDS, "exit status", "ties.rec")), out)
+    t.true(status == 0 and all(word in out for word in COMMANDS + FORMATS), out)
     for command, words in HELP.items():
         status, out, _ = ran(command, "-h")
         t.true(status == 0 and all(word in out for word in words), command, out)
@@ -53,7 +54,7 @@ def misused(t):
         t.true(status == 2 and out == "" and "usage: python3 -m niqastul" in err, words)
 
 
-@test(at_least=13)
+@test(at_least=16)
 def carried_out(t):
     """Each command on the whole case: what goes to which output."""
     with a_folder() as folder:
@@ -74,6 +75,13 @@ def carried_out(t):
         t.same(ran("join", link, link, link), (0, "none moved\n", ""))
         repeats = "refused 3: an entry of the order is out of range or repeats\n"
         t.same(ran("grow", names[1], names[1], link), (1, "", repeats))
+        records = "refused 6: not whole records, or not as many as the net has vertices: "
+        two_to_a_tie = file_of(1, 3, 0, 4, 2, 5)
+        for ties, text in ((file_of(*TIES)[:-4], records + "68 bytes, and a record has 12\n"),
+                           (two_to_a_tie[:-8], records + "16 bytes, and a record has 12\n"),
+                           (two_to_a_tie, "refused 32: the rows of an edge are not 1 to 6\n")):
+            folder.write(other=ties)
+            t.same(ran("grow", names[0], str(folder.path / "other"), link), (1, "", text))
         status, _, err = ran("grow", *names[:2], link, NIQASTUL_LIBRARY="/nowhere")
         t.true(status == 2 and "NIQASTUL_LIBRARY" in err and err.count("\n") == 1, err)
         t.same((folder.path / "net.link").read_bytes(), link_file(ORDER, TIES * 4))

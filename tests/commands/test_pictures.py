@@ -86,8 +86,9 @@ def thinned(t):
     rng = random.Random(1)
     with a_folder() as folder:
         places = "".join(f"{mark % 100} {mark // 100}\n" for mark in range(n)).encode()
-        folder.write(marks_ord=file_of(*rng.sample(range(n), n)), ties_rec=file_of(*nets.flat(nets.power_law(rng, n))),
-                     want_rec=file_of(calls.MAX_TIES, 1_000), places_txt=places)
+        ties = nets.with_rows(rng, nets.power_law(rng, n))
+        folder.write(marks_ord=file_of(*rng.sample(range(n), n)), ties_rec=file_of(*nets.flat(ties)),
+                     want_rec=file_of(calls.MAX_LIMIT, 1_000), places_txt=places)
         for names, note in ((["places.txt"], r"\d+,\d{3} of 19,998 ties"), ([], r"\d,\d{3} of 10,000 marks")):
             t.same(folder.run("picture", *THREE, *names, "out.svg"), (0, "", ""))
             shown = words_of((folder.path / "out.svg").read_text())

@@ -2,12 +2,14 @@
 files that were changed."""
 
 import collections
+import hashlib
+import itertools
 import json
 import os
 import random
 from array import array
 
-from oracle import calls
+from oracle import blocks, calls
 from oracle.forest import ties_of
 from support import nets
 from support.files import THREE, file_of, link_file
@@ -32,8 +34,8 @@ def lines_of(path):
 
 @test(at_least=3_000)
 def split_files(t):
-    """Each tie is in exactly one block's file, that of its block; border lists and figures are the oracle's; together
-    they are the net."""
+    """Each tie is in exactly one block's file, that of its block, with its rows; border lists and figures are the
+    oracle's; together they are the net."""
     with a_folder() as folder:
         inside = folder.path / "DIR"
         for seed in range(300):
@@ -54,12 +56,19 @@ def split_files(t):
             t.same(folder.run(*TOGETHER), (0, whole, ""), seed)
 
 
+def digest_of(ties):
+    """That of a block's ties, as docs/COMMANDS.md defines it."""
+    numbers = sorted(min(one, other) * 2**35 + max(one, other) * 8 + rows for one, other, rows in ties)
+    return hashlib.sha256(b"".join(number.to_bytes(8, "little") for number in numbers)).hexdigest()
+
+
 def summaries(t, inside, case, seed):
     """The summary as JSON and as text, against the oracle."""
     figures = {"marks": case.n, "ties": len(case.ties), "limit": case.limit, "bound": case.bound, "volume": case.volume}
     summary = json.loads((inside / "summary.json").read_text())
-    rows = [{name: entry for name, entry in row.items() if name != "digest"} for row in summary.pop("blocks")]
-    t.same((summary, rows), (figures | {"share": dict(zip(("quotient", "remainder"), case.share))}, case.rows()), seed)
+    lines = summary.pop("blocks")
+    t.same([its.pop("digest") for its in lines], [digest_of(case.of_block(block)) for block in range(case.k)], seed)
+    t.same((summary, lines), (figures | {"share": dict(zip(("quotient", "remainder"), case.share))}, case.rows()), seed)
     words = [line.split() for line in (inside / "summary.txt").read_text().splitlines()]
     (*first, last, quotient, remainder), names, *lines = words
     t.same(dict(zip(first[0::2], map(int, first[1::2]))), figures, seed)
@@ -70,9 +79,21 @@ def summaries(t, inside, case, seed):
 def changed(rng, case, ties):
     """A tie of the list is another: one end of it is."""
     place = rng.randrange(len(ties))
-    one, other = ties[place]
+    one, other, rows = ties[place]
     end = rng.choice([mark for mark in range(case.n) if mark not in (one, other)])
-    return ties[:place] + [(one, end)] + ties[place + 1:]
+    return ties[:place] + [(one, end, rows)] + ties[place + 1:]
+
+
+def exchanged(rng, ties):
+    """Two ties that join other marks have each other's rows; None if there are no two such."""
+    pairs = [(one, other) for one, other in itertools.combinations(range(len(ties)), 2)
+             if ties[one][2] != ties[other][2] and set(ties[one][:2]) != set(ties[other][:2])]
+    if not pairs:
+        return None
+    one, other = rng.choice(pairs)
+    its = list(ties)
+    its[one], its[other] = (*ties[one][:2], ties[other][2]), (*ties[other][:2], ties[one][2])
+    return its
 
 
 def told(t, folder, files, wanted, *context):
@@ -88,11 +109,11 @@ def told(t, folder, files, wanted, *context):
     return out
 
 
-@test(at_least=700)
+@test(at_least=900)
 def changed_files(t):
-    """A tie taken out, doubled, changed or moved is told, and a link file of which one bit is another; ties in another
-    order, or their ends, are not."""
-    quiet = 0
+    """A tie taken out, doubled, changed or moved is told, and so are other rows of a tie, rows exchanged between two,
+    and a link file of which one bit is another; ties in another order, or their ends, are not."""
+    quiet = quiet_rows = 0
     with a_folder() as folder:
         for seed in range(200):
             rng, case = random.Random(seed), Case(seed)
@@ -101,12 +122,18 @@ def changed_files(t):
             split(t, folder, case, seed)
             block = rng.choice(case.tie_blocks)
             ties = case.of_block(block)
-            place = rng.randrange(len(ties))
-            fewer, load = ties[:place] + ties[place + 1:], f"its load in the summary is {len(ties)}\n"
-            told(t, folder, {block: fewer}, f"has {len(ties) - 1} ties, {load}", "taken out", seed)
-            told(t, folder, {block: ties + [ties[place]]}, f"has {len(ties) + 1} ties, {load}", "doubled", seed)
+            place, whole = rng.randrange(len(ties)), calls.rows_of(ties)
+            *ends, rows = ties[place]
+            fewer, load = ties[:place] + ties[place + 1:], f"its load in the summary is {whole}\n"
+            told(t, folder, {block: fewer}, f"has {whole - rows} rows, {load}", "taken out", seed)
+            told(t, folder, {block: ties + [ties[place]]}, f"has {whole + rows} rows, {load}", "doubled", seed)
+            other_rows = rows % calls.MAX_ROWS + 1
+            its = ties[:place] + [(*ends, other_rows)] + ties[place + 1:]
+            told(t, folder, {block: its}, f"has {whole - rows + other_rows} rows, {load}", "other rows", seed)
             other = f"block-{block:03}.rec has other ties than the summary was made of"
             quiet += "NOT" not in told(t, folder, {block: changed(rng, case, ties)}, other, "changed", seed)
+            if its := exchanged(rng, ties):
+                quiet_rows += "NOT" not in told(t, folder, {block: its}, other, "rows exchanged", seed)
             if case.k > 1:
                 other = (block + rng.randrange(1, case.k)) % case.k
                 out = told(t, folder, {block: fewer, other: case.of_block(other) + [ties[place]]}, load, "moved", seed)
@@ -116,22 +143,26 @@ def changed_files(t):
             folder.write(net_link=link)
             told(t, folder, {}, "the blocks laid together are NOT ", "a bit of the link file", seed)
             folder.write(net_link=link_file(case.order, nets.flat(case.ties)))
-            turned = [tie[::-1] for tie in rng.sample(ties, len(ties))]
+            turned = [nets.turned(tie) for tie in rng.sample(ties, len(ties))]
             (folder.path / "DIR" / f"block-{block:03}.rec").write_bytes(file_of(*nets.flat(turned)))
             t.same(folder.run(*TOGETHER)[0], 0, "another order", seed)
-    t.true(quiet > 0, "no change left the net as it was, which only the digest tells")
+    t.true(quiet > 0 and quiet_rows > 0, "no change left the net as it was, which only the digest tells")
 
 
-@test(at_least=40)
+@test(at_least=60)
 def broken_splits(t):
     """Files that are not whole records or name what is not there, that are missing or too many; another net, another
     summary."""
     case = next(case for case in map(Case, range(100)) if case.k > 1 and len(case.ties) > case.n)
-    records, vertices = "not whole records, or not as many as the net has vertices", "an edge or a query names a vertex"
+    records, vertices = "and a record has 12 (block-000.rec)\n", "an edge or a query names a vertex"
     for name, data, status, text in (
-        ("DIR/block-000.rec", b"abc", 1, f"refused 6: {records} (block-000.rec)\n"),
-        ("DIR/block-000.rec", file_of(0, case.n), 1, f"refused 4: {vertices} out of range (block-000.rec)\n"),
-        ("DIR/block-000.rec", file_of(1, 1), 1, "refused 5: both ends of an edge are one vertex (block-000.rec)\n"),
+        ("DIR/block-000.rec", b"abc", 1, f": 3 bytes, {records}"),
+        ("DIR/block-000.rec", file_of(0, 1), 1, f": 8 bytes, {records}"),
+        ("DIR/block-000.rec", file_of(0, 1, 1, 0), 1, f": 16 bytes, {records}"),
+        ("DIR/block-000.rec", file_of(0, case.n, 1), 1, f"refused 4: {vertices} out of range (block-000.rec)\n"),
+        ("DIR/block-000.rec", file_of(1, 1, 1), 1, "refused 5: both ends of an edge are one vertex (block-000.rec)\n"),
+        ("DIR/block-000.rec", file_of(0, 1, 0), 1, "refused 32: the rows of an edge are not 1 to 6 (block-000.rec)\n"),
+        ("DIR/block-000.rec", file_of(0, 1, 7), 1, "refused 32: the rows of an edge are not 1 to 6 (block-000.rec)\n"),
         ("DIR/block-000.rec", None, 2, "block-000.rec: No such file or directory\n"),
         ("DIR/block-900.rec", b"", 1, "block-900.rec is not in the summary\n"),
         ("DIR/summary.json", None, 2, "summary.json: No such file or directory\n"),
@@ -189,22 +220,22 @@ def split_again(t):
 
 @test(at_least=20)
 def most_marks(t):
-    """A path of 1,000,000 marks, numbered by steps of 7, with a limit of 1,000: its groups are 1,000 ranks long and go
-    round the blocks, and the border is where a group begins."""
-    long, k = 1_000, 8
+    """A path of 1,000,000 marks, numbered by steps of 7, with a limit of 1,000 ties of 3 rows: its groups are 1,000
+    ranks long and go round the blocks, and the border is where a group begins."""
+    long, k, rows = 1_000, 8, 3
     order = array("I", (7 * rank % MOST for rank in range(MOST)))
-    ties = array("I", bytes(8 * (MOST - 1)))
-    ties[0::2], ties[1::2] = order[1:], order[:-1]
+    ties = array("I", [rows]) * (3 * (MOST - 1))
+    ties[0::3], ties[1::3] = order[1:], order[:-1]
     with a_folder(large=True) as folder:
-        folder.write(marks_ord=order.tobytes(), ties_rec=ties.tobytes(), want_rec=file_of(long, k))
+        folder.write(marks_ord=order.tobytes(), ties_rec=ties.tobytes(), want_rec=file_of(rows * long, k))
         t.same(folder.run("grow", *THREE[:2], "net.link")[0], 0)
-        records = array("I", [1]) * (2 * MOST)
+        records = array("I", [rows]) * (2 * MOST)
         records[0::2], records[-1] = array("I", range(1, MOST)) + array("I", [0xFFFFFFFF]), 0
         t.true((folder.path / "net.link").read_bytes() == records.tobytes(), "the link file of a path")
         t.same(folder.run("split", *THREE, "DIR")[:2], (0, ""))
         for block in range(k):
             begins = range(long * block, MOST, long * k)
-            wanted = b"".join(ties[2 * begin:2 * (begin + long)].tobytes() for begin in begins)
+            wanted = b"".join(ties[3 * begin:3 * (begin + long)].tobytes() for begin in begins)
             t.true((folder.path / "DIR" / f"block-{block:03}.rec").read_bytes() == wanted, "ties", block)
             border = {order[begin]: (block - 1) % k for begin in begins if begin}
             border |= {order[begin + long]: (block + 1) % k for begin in begins if begin + long < MOST}
@@ -213,10 +244,10 @@ def most_marks(t):
         summary = json.loads((folder.path / "DIR" / "summary.json").read_text())
         cuts = MOST // long - 1
         t.same([summary[name] for name in ("marks", "ties", "bound", "volume")], [MOST, MOST - 1, cuts, cuts])
-        t.same(summary["share"], {"quotient": MOST // k - 1, "remainder": k - 1})
+        t.same(summary["share"], dict(zip(("quotient", "remainder"), divmod(rows * (MOST - 1), k))))
         t.same(folder.run(*TOGETHER)[0], 0)
         t.same(folder.run("picture", *THREE, "out.svg")[0], 0)
         t.true(f"of {MOST:,} marks" in (folder.path / "out.svg").read_text(), "the picture says that it is thinned")
         with open(folder.path / "DIR" / "block-003.rec", "r+b") as file:
-            file.truncate(8 * (MOST // k - 1))
+            file.truncate(blocks.TIE * (MOST // k - 1))
         t.true(folder.run(*TOGETHER)[0] == 1, "a tie taken out")

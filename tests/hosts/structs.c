@@ -6,10 +6,11 @@
 #include <stdio.h>
 #include <string.h>
 
-enum { ROUNDS = 4000, VERTICES = 6, EDGES = 6, BLOCKS = 3, ROOM = 1000, GAP = 4, GAPS = 9, MARK = 0x5A5A5A5A };
+enum { ROUNDS = 4000, VERTICES = 6, EDGES = 6, ROWS = EDGES * NIQASTUL_MAX_ROWS, BLOCKS = 3 };
+enum { ROOM = 1000, GAP = 4, GAPS = 9, MARK = 0x5A5A5A5A };
 
 static uint64_t state = 1;
-static uint32_t memory[ROOM], twins[ROOM], lists[2][2 * EDGES + 1], order_list[VERTICES];
+static uint32_t memory[ROOM], twins[ROOM], lists[2][NIQASTUL_STRIDE * (EDGES + 1)], order_list[VERTICES];
 static uint8_t bytes[8 * VERTICES + 8], twin_bytes[sizeof bytes];
 static size_t taken, gaps[GAPS], gap_count;
 
@@ -202,17 +203,19 @@ static void check_query(struct niqastul_index_tables its, uint32_t rank)
     compare("query", got, wanted, run.first == first && run.count == count);
 }
 
-/* A list for n vertices: rarely with a vertex too high, a loop, or an odd length. */
+/* A list for n vertices: rarely with a vertex too high, a loop, rows that no edge has, or part of an edge more. */
 static struct niqastul_edges a_list(uint32_t *list, uint32_t n)
 {
     struct niqastul_edges edges;
     edges.list = list;
-    edges.length = 2 * draw(EDGES + 1) + (size_t)rarely();
+    edges.length = NIQASTUL_STRIDE * draw(EDGES + 1) + (rarely() ? 1 + draw(NIQASTUL_STRIDE - 1) : 0);
     for (size_t i = 0; i < edges.length; i++)
         list[i] = draw(n + (draw(60) == 0 || n == 0));
-    for (size_t i = 1; n > 0 && i < edges.length; i += 2)
+    for (size_t i = 1; n > 0 && i < edges.length; i += NIQASTUL_STRIDE)
         if (list[i] == list[i - 1] && !rarely())
             list[i] = (list[i] + 1) % n;
+    for (size_t i = 2; i < edges.length; i += NIQASTUL_STRIDE)
+        list[i] = draw(60) == 0 ? draw(2) * (NIQASTUL_MAX_ROWS + 1) : 1 + draw(NIQASTUL_MAX_ROWS);
     return edges;
 }
 
@@ -229,7 +232,7 @@ static struct niqastul_order an_order(uint32_t n)
     return order;
 }
 
-/* The net of a list that has no fault. Rarely one that holds anything, almost as much as a net can, or an edge more. */
+/* The net of a list that has no fault. Rarely one that holds anything, almost as much as a net can, or a row more. */
 static struct niqastul_net a_net(size_t n, struct niqastul_edges edges, struct niqastul_work work)
 {
     struct niqastul_net net = niqastul_net_in(take(niqastul_net_size(n)), n);
@@ -237,7 +240,7 @@ static struct niqastul_net a_net(size_t n, struct niqastul_edges edges, struct n
     if (kind != 0 && niqastul_net_start(net) == NIQASTUL_ACCEPTED)
         niqastul_net_add(net, edges, work, &moved);
     if (kind == 1 && n > 0)
-        net.weights[0] = NIQASTUL_MAX_TOTAL - draw(2 * EDGES);
+        net.weights[0] = NIQASTUL_MAX_TOTAL - draw(2 * ROWS);
     if (kind == 2 && n > 0)
         net.weights[0]++;
     return net;
@@ -258,7 +261,7 @@ static size_t almost(size_t number)
 
 static void round_of_checks(void)
 {
-    uint32_t n = rarely() ? 0 : 1 + draw(VERTICES), blocks = draw(BLOCKS + 1), limit = draw(2 * EDGES);
+    uint32_t n = rarely() ? 0 : 1 + draw(VERTICES), blocks = draw(BLOCKS + 1), limit = draw(2 * ROWS);
     struct niqastul_edges edges = a_list(lists[0], n), added = a_list(lists[1], n);
     struct niqastul_edges longest = edges.length < added.length ? added : edges;
     struct niqastul_net sized = niqastul_net_in(memory, almost(n)); /* only a number of vertices, for sizes */

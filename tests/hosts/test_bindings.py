@@ -9,7 +9,7 @@ import subprocess
 import sys
 import tempfile
 
-from oracle import blocks
+from oracle import blocks, calls
 from support import ROOT, compiled, nets
 from support.files import THREE, file_of
 from support.harness import test
@@ -27,13 +27,13 @@ def printed(*command, **options):
 def python_binding(t):
     shown = printed(sys.executable, "test_niqastul.py", cwd=PYTHON).stderr
     ran = int(re.search(r"Ran (\d+) tests", shown)[1])
-    t.true(ran >= 19 and shown.rstrip().endswith("OK"), shown)
+    t.true(ran >= 37 and shown.rstrip().endswith("OK"), shown)
 
 
 @test(at_least=1)
 def rust_binding(t):
     shown = printed("cargo", "test", "--offline", "--quiet", cwd=RUST).stdout
-    t.true(sum(int(passed) for passed in re.findall(r"(\d+) passed", shown)) >= 30, shown)
+    t.true(sum(int(passed) for passed in re.findall(r"(\d+) passed", shown)) >= 34, shown)
 
 
 def built(folder):
@@ -53,9 +53,10 @@ def built(folder):
 def some_files(rng):
     """The bytes of three files."""
     n = rng.randrange(1, 40)
-    order, edges = rng.sample(range(n), n), nets.flat(nets.ties(rng, n, rng.choice(nets.SHAPES)))
-    limit = len(edges) // 2 + 1 - rng.randrange(len(edges) // 4 + 1)
-    return file_of(*order), file_of(*edges), file_of(limit, rng.randrange(1, 5))
+    order, edges = rng.sample(range(n), n), nets.ties(rng, n, rng.choice(nets.SHAPES))
+    total = calls.rows_of(edges)
+    limit = total + 1 - rng.randrange(total // 2 + 1)
+    return file_of(*order), file_of(*nets.flat(edges)), file_of(limit, rng.randrange(1, 5))
 
 
 @test(at_least=60)
@@ -84,7 +85,7 @@ SHOWN = {"README.md": "block", "docs/CALLS.md": "its.block"}
 def shown_in_c(t):
     for page, block in SHOWN.items():
         parts = re.findall(r"^```c\n(.*?)^```", (ROOT / page).read_text(encoding="utf-8"), flags=re.S | re.M)
-        [code] = [part for part in parts if "= {0,2, 0,4" in part]
+        [code] = [part for part in parts if "= {0,2,1, 0,4,1" in part]
         includes = "".join(f"#include <{name}.h>\n" for name in ("niqastul", "stdio", "stdlib"))
         source = f"int main(void) {{ {code} for (int i = 0; i < 6; i++) printf(\"%u \", {block}[i]); }}"
         t.same(compiled.printed("gcc -std=c99 -x c", includes + source), "0 1 0 1 1 1 ", page)

@@ -13,7 +13,7 @@ from support.program import PROGRAM, folder_of, printed, run, wanted
 from support.waiting import TOO_LONG
 
 
-@test(at_least=16)
+@test(at_least=18)
 def missing_and_broken_files(t):
     """The whole case with each file left out, or with part of a record."""
     marks, ties = file_of(*ORDER), file_of(*TIES)
@@ -25,13 +25,14 @@ def missing_and_broken_files(t):
         (1, (b"abc", ties, file_of(4, 2))),
         (6, (marks[:-1], ties, file_of(4, 2))),
         (6, (marks, ties[:-4], file_of(4, 2))),
+        (6, (marks, ties[:-8], file_of(4, 2))),
         (6, (marks, ties, file_of(4, 2, 1))),
         (3, (file_of(0, 1, 1), ties, file_of(0, 0))),
     ):
         t.same(run(t, files), f"refused {number}\n")
 
 
-FOREIGN = file_of(9, 9)
+FOREIGN = file_of(9, 9, 9)
 
 # files that one run is given, and what it prints: of two reasons for a refusal the first by document 01's order
 LIMIT_3 = """0 3 2 3 2 0 0 1
@@ -50,6 +51,14 @@ ONE_BLOCK = """0 3 2 3 2 2 0 1
 5 5 - 0 0 5 0 1
 bound 2 volume 0 share 6 0
 """
+ONE_GROUP = """0 3 2 3 2 5 0 1
+1 0 3 2 2 5 0 1
+2 1 4 1 2 5 0 1
+3 2 4 0 1 5 0 1
+4 4 5 0 1 5 0 1
+5 5 - 0 0 5 0 1
+bound 0 volume 0 share 3 0
+"""
 RUNS = {
     "limit 4, 2 blocks": (file_of(*ORDER), file_of(*TIES), file_of(4, 2), WHOLE_CASE),
     "limit 3": (file_of(*ORDER), file_of(*TIES), file_of(3, 2), LIMIT_3),
@@ -58,20 +67,28 @@ RUNS = {
     "no vertex": (b"", FOREIGN, b"", "refused 1\n"),
     "part of a vertex": (bytes(3), FOREIGN, b"", "refused 1\n"),
     "1,001 vertices": (bytes(4_004), FOREIGN, b"", "refused 2\n"),
-    "4,001 edges": (file_of(*ORDER), bytes(32_008), b"", "refused 2\n"),
+    "4,000 edges": (file_of(*ORDER), bytes(48_000), file_of(4, 2), "refused 5\n"),
+    "4,000 edges and a byte": (file_of(*ORDER), bytes(48_001), file_of(4, 2), "refused 6\n"),
+    "4,001 edges less a byte": (file_of(*ORDER), bytes(48_011), file_of(4, 2), "refused 6\n"),
+    "4,001 edges": (file_of(*ORDER), bytes(48_012), b"", "refused 2\n"),
     "a byte behind 1,000 vertices": (bytes(4_001), FOREIGN, b"", "refused 6\n"),
-    "one edge and a half": (bytes(8), bytes(12), bytes(8), "refused 6\n"),
+    "one edge and a third": (bytes(8), bytes(16), bytes(8), "refused 6\n"),
+    "one edge and two thirds": (bytes(8), bytes(20), bytes(8), "refused 6\n"),
     "no limits": (bytes(8), FOREIGN, b"", "refused 6\n"),
     "an order that repeats": (bytes(8), FOREIGN, bytes(8), "refused 3\n"),
     "limit 0": (file_of(*ORDER), FOREIGN, file_of(0, 2), "refused 8\n"),
+    "limit 96,000,000": (file_of(*ORDER), file_of(*TIES), file_of(96_000_000, 2), ONE_GROUP),
+    "limit 96,000,001": (file_of(*ORDER), FOREIGN, file_of(96_000_001, 2), "refused 8\n"),
     "1,001 blocks": (file_of(*ORDER), FOREIGN, file_of(4, 1001), "refused 8\n"),
     "vertex 9": (file_of(*ORDER), FOREIGN, file_of(1, 2), "refused 4\n"),
-    "one vertex twice": (file_of(*ORDER), file_of(1, 1, 9, 9), file_of(1, 2), "refused 5\n"),
+    "one vertex twice": (file_of(*ORDER), file_of(1, 1, 9, 9, 9, 1), file_of(1, 2), "refused 5\n"),
+    "0 rows": (file_of(*ORDER), file_of(1, 2, 0, 9, 9, 1), file_of(1, 2), "refused 32\n"),
+    "7 rows": (file_of(*ORDER), file_of(1, 2, 6, 2, 1, 7), file_of(1, 2), "refused 32\n"),
     "limit 2": (file_of(*ORDER), file_of(*TIES), file_of(2, 2), "refused 22\n"),
 }
 
 
-@test(at_least=34)
+@test(at_least=50)
 def printed_runs(t):
     """Runs whose whole text is written down here, not only the oracle's."""
     for name, (marks, ties, want, text) in RUNS.items():
@@ -86,17 +103,17 @@ def capacities(t):
     for shape in (nets.path, nets.tall, nets.star, nets.sparse, nets.grid, nets.tree):
         found = nets.ties(rng, 1000, shape)
         ties = file_of(*nets.flat((found + rng.choices(found, k=4000))[:4000]))
-        for limit in (4000, 40):
+        for limit in (24_000, 140):
             text = run(t, (marks, ties, file_of(limit, 5)), shape.__name__, limit)
             t.true(text == "refused 22\n" or text.count("\n") == 1001, shape.__name__, limit)
-    want = file_of(4000, 3)
+    want = file_of(24_000, 3)
     for more in (1, 2, 3):
         t.same(run(t, (marks + bytes(more), ties, want)), "refused 6\n", more)
-    for more in (1, 4, 7):
+    for more in (1, 4, 8, 11):
         t.same(run(t, (marks, ties + bytes(more), want)), "refused 6\n", more)
     for many, most in ((1001, 4000), (1000, 4001), (1001, 4001), (1_000_000, 0), (1_000_001, 0)):
-        t.same(run(t, (bytes(4 * many), bytes(8 * most), b"")), "refused 2\n", many, most)
-    t.same(run(t, (b"", bytes(8 * 4001), want)), "refused 1\n")
+        t.same(run(t, (bytes(4 * many), bytes(12 * most), b"")), "refused 2\n", many, most)
+    t.same(run(t, (b"", bytes(12 * 4001), want)), "refused 1\n")
 
 
 def damaged(rng, files):
@@ -119,7 +136,7 @@ def small_runs(t):
     for seed in range(1500):
         rng = random.Random(seed)
         n = rng.randrange(1, 16)
-        ties, limits = nets.ties(rng, n, rng.choice(nets.SHAPES)), (rng.randrange(1, 12), rng.randrange(1, 5))
+        ties, limits = nets.ties(rng, n, rng.choice(nets.SHAPES)), (rng.randrange(1, 42), rng.randrange(1, 5))
         files = [file_of(*rng.sample(range(n), n)), file_of(*nets.flat(ties)), file_of(*limits)]
         run(t, damaged(rng, files), seed)
 
@@ -168,7 +185,7 @@ def run_on_pipes(t, files, pipes, *context, **room):
     t.same(text, wanted(files), *context)
 
 
-@test(at_least=78)
+@test(at_least=102)
 def files_in_parts(t):
     """Each file a pipe that gives it in two parts, cut at every byte; then all three byte by byte. A read then gets
     less than there is to come, and what has come may end within a record."""
@@ -184,7 +201,7 @@ def the_largest(rng, shape):
     """As many marks and ties as there may be, and a limit that holds them."""
     found = nets.ties(rng, 1000, shape)
     ties = (found + rng.choices(found, k=4000))[:4000]
-    return file_of(*rng.sample(range(1000), 1000)), file_of(*nets.flat(ties)), file_of(4000, 5)
+    return file_of(*rng.sample(range(1000), 1000)), file_of(*nets.flat(ties)), file_of(24_000, 5)
 
 
 @test(at_least=8)

@@ -1,5 +1,5 @@
-"""The header compiles as C and as C++; limits are document 01's; answers have one text and the hosts one version; and
-what pointers and lengths may be."""
+"""The header compiles as C and as C++; limits are those of the documents; answers have one text and the hosts one
+version; and what pointers and lengths may be."""
 
 import ast
 import ctypes
@@ -27,10 +27,12 @@ def constants(t):
     int main(void) {
         printf("%u %u %u %u %u %u", NIQASTUL_ABSENT, NIQASTUL_MAX_VERTICES, NIQASTUL_MAX_EDGES, NIQASTUL_MAX_TOTAL,
                NIQASTUL_MAX_LIMIT, NIQASTUL_MAX_BLOCKS);
-        printf(" %u %u %u", (unsigned)niqastul_add_lower(5, 7), (unsigned)niqastul_join_lower(5, 7),
-               (unsigned)niqastul_bytes(5));
+        printf(" %u %u %u %u", NIQASTUL_STRIDE, NIQASTUL_MAX_ROWS, (unsigned)niqastul_add_lower(5, 8),
+               (unsigned)niqastul_join_lower(5, 8));
+        printf(" %u %u", (unsigned)niqastul_index_neighbours(5, 7), (unsigned)niqastul_bytes(5));
     }"""
-    numbers = (ABSENT, calls.MAX_MARKS, calls.MAX_TIES, calls.MAX_TOTAL, calls.MAX_LIMIT, calls.MAX_BLOCKS, 8, 12, 40)
+    numbers = (ABSENT, calls.MAX_MARKS, calls.MAX_TIES, calls.MAX_TOTAL, calls.MAX_LIMIT, calls.MAX_BLOCKS)
+    numbers += (3, calls.MAX_ROWS, 7, 13, 6, 40)
     for language in LANGUAGES:
         t.same(printed(language, source).split(), [str(x) for x in numbers], language)
     answers = [int(number) for number in re.findall(r"^    NIQASTUL_\w+ = (\d+)", header.TEXT, flags=re.M)]
@@ -38,19 +40,28 @@ def constants(t):
     t.same(len(set(answers)), len(answers), "each once")
 
 
-@test(at_least=1)
-def rust_constants(t):
-    """The Rust crate has the header's constants."""
-    defined = re.findall(r"^#define NIQASTUL_(?!VERSION)(\w+) (?:UINT32_C\()?(\w+)", header.TEXT, flags=re.M)
+DEFINED = re.findall(r"^#define NIQASTUL_(?!VERSION)(\w+) (?:UINT32_C\()?(\w+)", header.TEXT, flags=re.M)
+
+
+def in_python(expression):
+    """What an expression is worth where the Python package is imported."""
+    words = [sys.executable, "-c", f"import niqastul, niqastul.calls; print({expression})"]
+    return ast.literal_eval(subprocess.run(words, cwd=PYTHON, check=True, capture_output=True, text=True).stdout)
+
+
+@test(at_least=2)
+def constants_of_bindings(t):
+    """The Rust crate and the Python package have the header's constants."""
     source = (RUST / "src" / "lib.rs").read_text()
     t.same(re.findall(r"^pub const (\w+): \w+ = (\w+);", source.replace("_", ""), flags=re.M),
-           [(name.replace("_", ""), number) for name, number in defined])
+           [(name.replace("_", ""), number) for name, number in DEFINED])
+    t.same(in_python(f"[niqastul.{', niqastul.'.join(name for name, _ in DEFINED)}]"),
+           [int(number, 0) for _, number in DEFINED])
 
 
 def python_texts():
     """The text of each refusal by its number, as the Python package has it."""
-    words = [sys.executable, "-c", "from niqastul.calls import REASONS; print(REASONS)"]
-    return ast.literal_eval(subprocess.run(words, cwd=PYTHON, check=True, capture_output=True, text=True).stdout)
+    return in_python("niqastul.calls.REASONS")
 
 
 def rust_texts():
@@ -60,7 +71,7 @@ def rust_texts():
     return {int(number): texts[name] for name, number in numbers}
 
 
-@test(at_least=22)
+@test(at_least=23)
 def texts(t):
     """Each answer has one text in C, in Python and in Rust, and another one than any other answer."""
     source = """#include <stdio.h>
@@ -74,7 +85,7 @@ def texts(t):
         shown = printed(language, source).splitlines()
         t.same(shown, [known.get(number, "unknown answer") for number in range(100)], language)
     for number, text in known.items():
-        t.true(re.fullmatch(r"[ -~]{5,60}", text), number, text)
+        t.true(re.fullmatch(r"[ -~]{5,70}", text), number, text)
 
 
 NONE = None, ctypes.c_size_t(0)

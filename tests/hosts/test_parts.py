@@ -1,6 +1,7 @@
 """The example in parts: processes that share out the edges of a graph come to the same link file, however many they
 are."""
 
+import itertools
 import os
 import pathlib
 import random
@@ -62,7 +63,7 @@ def same_file(t):
 def same_large_file(t):
     """100,000 vertices: the file that one process writes, which is that of one call."""
     rng, n = random.Random(1), 100_000
-    order, edges = rng.sample(range(n), n), nets.flat(nets.tree(rng, n) + nets.sparse(rng, n))
+    order, edges = rng.sample(range(n), n), nets.flat(nets.with_rows(rng, nets.tree(rng, n) + nets.sparse(rng, n)))
     with tempfile.TemporaryDirectory() as folder:
         parts = Parts(folder)
         files = [parts.run(processes, file_of(*order), file_of(*edges)) for processes in COUNTS]
@@ -72,13 +73,13 @@ def same_large_file(t):
         t.true(file == files[0], processes)
 
 
-@test(at_least=16, missing=MISSING)
+@test(at_least=32, missing=MISSING)
 def same_refusals(t):
     """Refused with one number, that of the whole list, and no file is written."""
-    good = [0, 1, 1, 2, 2, 3]
-    loop, beyond = [1, 1], [0, 4]
+    good = [0, 1, 1, 1, 2, 6, 2, 3, 1]
+    faulty = [1, 1, 1], [0, 4, 1], [0, 1, 7]
     cases = [([], good), ([0, 1, 1, 2], good)]
-    cases += [([3, 2, 1, 0], good + one + good + other) for one, other in ((loop, beyond), (beyond, loop))]
+    cases += [([3, 2, 1, 0], good + one + good + other) for one, other in itertools.permutations(faulty, 2)]
     with tempfile.TemporaryDirectory() as folder:
         parts = Parts(folder)
         for order, edges in cases:
@@ -86,3 +87,13 @@ def same_refusals(t):
             for processes in COUNTS:
                 ran = parts.run(processes, file_of(*order), file_of(*edges))
                 t.same(ran, (f"refused {number}", None), order, edges, processes)
+
+
+@test(at_least=2, missing=MISSING)
+def same_limit(t):
+    """One edge more than a list may have is 20, though each of two processes has half of them, and their rows fit."""
+    edges = file_of(0, 1, 1) * (calls.MAX_TIES + 1)
+    with tempfile.TemporaryDirectory() as folder:
+        parts = Parts(folder)
+        for processes in COUNTS[:2]:
+            t.same(parts.run(processes, file_of(0, 1), edges), ("refused 20", None), processes)

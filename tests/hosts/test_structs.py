@@ -14,16 +14,16 @@ STRUCTS = {name: words for name, words in header.INLINE.items() if any(word.star
 # the answers that structs.c has to meet; what a struct cannot be lent is not among them, such as weights of another
 # length than the parents, and neither are lists of 16,000,001 edges
 MET = {
-    "relabel": {0, 1, 2, 3, 4, 5},
+    "relabel": {0, 1, 2, 3, 4, 5, 32},
     "start": {0, 1},
-    "add": {0, 1, 2, 30, 4, 5, 20},
+    "add": {0, 1, 2, 30, 4, 5, 32, 20},
     "join": {0, 1, 2, 21, 30, 20},
     "save": {0, 1, 2, 30},
     "read": {0, 1, 6, 7, 20},
     "divide": {0, 1, 2, 8, 30, 22},
-    "report": {0, 1, 2, 8, 30, 4, 5, 22, 23},
-    "separate": {0, 1, 2, 30, 4, 5, 23, 31},
-    "index": {0, 1, 2, 4, 5},
+    "report": {0, 1, 2, 8, 30, 4, 5, 32, 22, 23},
+    "separate": {0, 1, 2, 30, 4, 5, 32, 23, 31},
+    "index": {0, 1, 2, 4, 5, 32},
     "query": {0, 1, 30, 4},
 }
 

@@ -1,7 +1,7 @@
 """Document 02, Paper 5: what lies between two marks. The call answers as those of document 01 do."""
 
-from .calls import bad_count, damaged, list_refusal, other_net
-from .forest import ABSENT, above, net_of
+from .calls import bad_count, damaged, list_refusal, not_whole, other_net
+from .forest import ABSENT, above, net_of, ties_of
 
 
 def marks_above_both(parents, one, other):
@@ -18,7 +18,7 @@ def separate_refusal(parents, loads, one, other, flat, tables):
     n = len(parents)
     if bad_count(n):
         return 1
-    if any(len(table) != n for table in (loads, *tables)) or len(flat) % 2:
+    if any(len(table) != n for table in (loads, *tables)) or not_whole(flat):
         return 2
     if damaged(parents, loads):
         return 30
@@ -37,7 +37,7 @@ def separate(parents, loads, one, other, flat, *tables):
     number = separate_refusal(parents, loads, one, other, flat, tables)
     if number not in (0, 23, 31):
         return number, *tables, None, None
-    table, compared = tables[0], net_of(len(parents), flat)
+    table, compared = tables[0], net_of(len(parents), ties_of(flat))
     if number:
         return number, table, *compared, None, None
     marks = marks_above_both(parents, one, other)

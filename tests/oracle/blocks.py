@@ -1,5 +1,5 @@
-"""Document 01, Files, and document 02, Paper 4: one run of the program `blocks`, from the bytes of its three files to
-what it prints.
+"""Document 01, Files, and document 02, Papers 4 and 6: one run of the program `blocks`, from the bytes of its three
+files to what it prints.
 
     python3 -m oracle.blocks DIR        prints what `blocks` has to print when it is run in DIR"""
 
@@ -7,10 +7,13 @@ import pathlib
 import sys
 
 from . import calls
-from .forest import ABSENT, loads_of, parents_of, reaches, ties_of
+from .forest import ABSENT, loads_of, net_of, reaches, ties_of
 
 MAX_MARKS = 1_000
 MAX_TIES = 4_000
+
+# the bytes of a tie: two mark numbers and the rows
+TIE = 12
 
 
 def refusal(marks, ties, want):
@@ -19,9 +22,9 @@ def refusal(marks, ties, want):
     n = len(marks) // 4
     if n == 0:
         return 1
-    if n > MAX_MARKS or len(ties) // 8 > MAX_TIES:
+    if n > MAX_MARKS or len(ties) // TIE > MAX_TIES:
         return 2
-    if len(marks) % 4 or len(ties) % 8 or len(want) != 8:
+    if len(marks) % 4 or len(ties) % TIE or len(want) != 8:
         return 6
     order = calls.words(marks)
     if calls.bad_order(order):
@@ -46,16 +49,16 @@ def run(marks, ties, want):
     order, (limit, k) = calls.words(marks), calls.words(want)
     n = len(order)
     _, flat = calls.translate(order, calls.words(ties), calls.words(ties))
-    pairs = ties_of(flat)
-    parents, loads = parents_of(n, pairs), loads_of(n, pairs)
+    listed = ties_of(flat)
+    parents, loads = net_of(n, listed)
     _, tops, blocks, _ = calls.division(parents, loads, limit, k)
-    block_counts = calls.block_counts_of(n, pairs, calls.tie_blocks_of(pairs, blocks))
-    reach = reaches(parents, pairs)
+    block_counts = calls.block_counts_of(n, listed, calls.tie_blocks_of(listed, blocks))
+    reach = reaches(parents, listed)
     lines = []
     for x in range(n):
         parent = "-" if parents[x] == ABSENT else parents[x]
         lines.append(f"{x} {order[x]} {parent} {loads[x]} {reach[x]} {tops[x]} {blocks[x]} {block_counts[x]}")
-    bound, volume = calls.bound_of(parents, pairs, tops), calls.volume_of(block_counts)
+    bound, volume = calls.bound_of(parents, listed, tops), calls.volume_of(block_counts)
     quotient, remainder = calls.share_of(loads, k)
     lines.append(f"bound {bound} volume {volume} share {quotient} {remainder}")
     return "".join(line + "\n" for line in lines)

@@ -1,5 +1,6 @@
 """Document 01, The book of ties. It is fed which nets and file each call was lent, the tie list of an addition, and
-whether the call was accepted, and never looks into parents, loads or a file's bytes."""
+whether the call was accepted, and never looks into parents, loads or a file's bytes. It keeps each tie with its rows
+(document 02, Paper 6)."""
 
 from .forest import ties_of
 

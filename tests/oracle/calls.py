@@ -1,17 +1,18 @@
-"""Document 01, The calls and Refused; document 02, Papers 2 to 4. Each call takes its tables as lists and answers a
-tuple: the number (0 if accepted), then the tables that it was lent to write, as they are afterwards, then its other
+"""Document 01, The calls and Refused; document 02, Papers 2 to 4 and 6. Each call takes its tables as lists and answers
+a tuple: the number (0 if accepted), then the tables that it was lent to write, as they are afterwards, then its other
 answers, None if refused. No list that is given is changed."""
 
-from .forest import ABSENT, links, loads_of, net_of, parents_of, reaches, ties_of
+from .forest import ABSENT, links, loads_of, net_of, pairs_of, parents_of, reaches, tie_count, ties_of
 
 MAX_MARKS = 1_000_000
-MAX_TOTAL = 16_000_000
+MAX_TOTAL = 96_000_000
 MAX_TIES = 16_000_000
-MAX_LIMIT = 16_000_000
+MAX_LIMIT = 96_000_000
 MAX_BLOCKS = 1_000
+MAX_ROWS = 6
 
-# "Order where several apply to a call"; 4 and 5 share a place. Document 02 puts 31 after 23.
-ORDER = [1, 2, 6, 3, 8, 21, 30, 4, 5, 7, 20, 22, 23, 31]
+# "Order where several apply to a call"; 4, 5 and 32 share a place. Document 02 puts 32 after 5, and 31 after 23.
+ORDER = [1, 2, 6, 3, 8, 21, 30, 4, 5, 32, 7, 20, 22, 23, 31]
 
 
 def bad_count(n):
@@ -28,24 +29,31 @@ def damaged(parents, loads):
     return breaks_rule_of_7(parents) or sum(loads) > MAX_TOTAL
 
 
+def not_whole(flat):
+    """The length is not a multiple of three."""
+    return len(flat) % 3 != 0
+
+
 def fault(n, flat):
-    """4 or 5 at the first faulty tie, 4 before 5; 0 if none is faulty."""
-    for a, b in ties_of(flat):
+    """4, 5 or 32 at the first faulty tie, 4 before 5 before 32; 0 if none is faulty."""
+    for a, b, rows in ties_of(flat):
         if a >= n or b >= n:
             return 4
         if a == b:
             return 5
+        if not 1 <= rows <= MAX_ROWS:
+            return 32
     return 0
 
 
 def list_refusal(n, flat):
-    """Of a list given as a net's own: 4 or 5 at the first faulty tie, then 20."""
-    return fault(n, flat) or (20 if len(flat) // 2 > MAX_TIES else 0)
+    """Of a list given as a net's own: 4, 5 or 32 at the first faulty tie, then 20."""
+    return fault(n, flat) or (20 if tie_count(flat) > MAX_TIES else 0)
 
 
 def other_net(parents, loads, flat):
     """The ties have other parents or loads than the net."""
-    return net_of(len(parents), flat) != (parents, loads)
+    return net_of(len(parents), ties_of(flat)) != (parents, loads)
 
 
 def bad_order(order):
@@ -61,7 +69,7 @@ def bad_limits(limit, k):
 def translate_refusal(order, flat, target):
     if bad_count(len(order)):
         return 1
-    if len(flat) % 2 or len(target) != len(flat):
+    if not_whole(flat) or len(target) != len(flat):
         return 2
     if bad_order(order):
         return 3
@@ -73,7 +81,7 @@ def translate(order, flat, target):
     if number:
         return number, target
     rank = {mark: place for place, mark in enumerate(order)}
-    return 0, [rank[mark] for mark in flat]
+    return 0, [entry for a, b, rows in ties_of(flat) for entry in (rank[a], rank[b], rows)]
 
 
 # Start
@@ -103,17 +111,22 @@ def moved(before, after):
 
 # Add
 
+def rows_of(ties):
+    """All rows that ties have together."""
+    return sum(rows for _, _, rows in ties)
+
+
 def add_refusal(parents, loads, flat):
     n = len(parents)
     if bad_count(n):
         return 1
-    if len(loads) != n or len(flat) % 2:
+    if len(loads) != n or not_whole(flat):
         return 2
     if damaged(parents, loads):
         return 30
     if fault(n, flat):
         return fault(n, flat)
-    if sum(loads) + len(flat) // 2 > MAX_TOTAL:
+    if tie_count(flat) > MAX_TIES or sum(loads) + rows_of(ties_of(flat)) > MAX_TOTAL:
         return 20
     return 0
 
@@ -123,7 +136,7 @@ def add(parents, loads, flat):
     if number:
         return number, parents, loads, None
     n, ties = len(parents), ties_of(flat)
-    after = parents_of(n, links(parents) + ties)
+    after = parents_of(n, links(parents) + pairs_of(ties))
     return 0, after, [a + b for a, b in zip(loads, loads_of(n, ties))], moved(parents, after)
 
 
@@ -283,13 +296,13 @@ def divide(parents, loads, limit, k, carried, tops, blocks, block_loads):
 
 def tie_blocks_of(ties, blocks):
     """A tie belongs to the block of its lower end."""
-    return [blocks[min(a, b)] for a, b in ties]
+    return [blocks[min(a, b)] for a, b, _ in ties]
 
 
 def block_counts_of(n, ties, tie_blocks):
     """Different blocks among the ties of each rank."""
     met = [set() for _ in range(n)]
-    for (a, b), block in zip(ties, tie_blocks):
+    for (a, b, _), block in zip(ties, tie_blocks):
         met[a].add(block)
         met[b].add(block)
     return [len(blocks) for blocks in met]
@@ -297,9 +310,9 @@ def block_counts_of(n, ties, tie_blocks):
 
 def ties_taken_of(n, ties, tie_blocks, k):
     """Document 02, Paper 3: for each rank, how many of its ties, in list order, the count took, up to and with the
-    first that completes the k, or all if none does."""
+    first that completes the k, or all if none does. These are ties, whatever their rows."""
     blocks_of = [[] for _ in range(n)]
-    for (a, b), block in zip(ties, tie_blocks):
+    for (a, b, _), block in zip(ties, tie_blocks):
         blocks_of[a].append(block)
         blocks_of[b].append(block)
     return [taken(blocks, k) for blocks in blocks_of]
@@ -343,7 +356,7 @@ def report_refusal(parents, loads, limit, k, flat, tables):
     of_n = (loads, carried, tops, blocks, reach, block_counts, ties_taken, parents2, loads2)
     if any(len(table) != n for table in of_n) or len(block_loads) != k:
         return 2
-    if len(flat) % 2 or len(tie_blocks) != len(flat) // 2:
+    if not_whole(flat) or len(tie_blocks) != tie_count(flat):
         return 2
     if bad_limits(limit, k):
         return 8
@@ -362,7 +375,7 @@ def report(parents, loads, limit, k, flat, *tables):
     number = report_refusal(parents, loads, limit, k, flat, tables)
     n, ties = len(parents), ties_of(flat)
     if number == 23:
-        return (23, *tables[:8], *net_of(n, flat), *[None] * 4)
+        return (23, *tables[:8], *net_of(n, ties), *[None] * 4)
     if number:
         return (number, *tables, *[None] * 4)
     carried, tops, blocks, block_loads = division(parents, loads, limit, k)
@@ -370,4 +383,4 @@ def report(parents, loads, limit, k, flat, *tables):
     block_counts = block_counts_of(n, ties, tie_blocks)
     written = carried, tops, blocks, block_loads, tie_blocks, reaches(parents, ties), block_counts
     answers = bound_of(parents, ties, tops), volume_of(block_counts), *share_of(loads, k)
-    return (0, *written, ties_taken_of(n, ties, tie_blocks, k), *net_of(n, flat), *answers)
+    return (0, *written, ties_taken_of(n, ties, tie_blocks, k), *net_of(n, ties), *answers)

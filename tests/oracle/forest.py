@@ -1,18 +1,28 @@
-"""Document 01, Terms: the forest, loads, above and under, reach. A tie is a pair of ranks; a tie list may be flat."""
+"""Document 01, Terms, with the rows of document 02, Paper 6: the forest, loads, above and under, reach. A tie is two
+ranks and its rows; a tie list may be flat."""
 
 ABSENT = 0xFFFFFFFF
 
 
+def tie_count(flat):
+    """How many ties a flat list has, three numbers to a tie; what is left at its end makes none."""
+    return len(flat) // 3
+
+
 def ties_of(flat):
-    """The ties of a flat list, two ranks to a tie."""
-    return [(flat[i], flat[i + 1]) for i in range(0, len(flat) - 1, 2)]
+    return [(flat[3 * i], flat[3 * i + 1], flat[3 * i + 2]) for i in range(tie_count(flat))]
 
 
-def parents_of(n, ties):
-    """The elimination game: eliminate ranks upward. At x, let S be the higher neighbours of x, added ones included;
-    make all of S neighbours of each other; the parent of x is the lowest of S, or none if S is empty."""
+def pairs_of(ties):
+    """The ranks that ties join: rows have no part in the forest."""
+    return [(a, b) for a, b, _ in ties]
+
+
+def parents_of(n, pairs):
+    """The elimination game on pairs of ranks: eliminate ranks upward. At x, let S be the higher neighbours of x, added
+    ones included; make all of S neighbours of each other; the parent of x is the lowest of S, or none if S is empty."""
     neighbours = [set() for _ in range(n)]
-    for a, b in ties:
+    for a, b in pairs:
         neighbours[a].add(b)
         neighbours[b].add(a)
     parents = []
@@ -25,17 +35,16 @@ def parents_of(n, ties):
 
 
 def loads_of(n, ties):
-    """Load of x: the number of ties whose lower end is x, repeats counted."""
+    """Load of x: the sum of the rows of the ties whose lower end is x, repeats counted."""
     loads = [0] * n
-    for a, b in ties:
-        loads[min(a, b)] += 1
+    for a, b, rows in ties:
+        loads[min(a, b)] += rows
     return loads
 
 
-def net_of(n, flat):
-    """The parents and the loads that the ties of a flat list give."""
-    ties = ties_of(flat)
-    return parents_of(n, ties), loads_of(n, ties)
+def net_of(n, ties):
+    """The parents and the loads that ties give."""
+    return parents_of(n, pairs_of(ties)), loads_of(n, ties)
 
 
 def links(parents):
@@ -58,7 +67,7 @@ def reaches(parents, ties):
     over = [above(parents, x) for x in range(len(parents))]
     is_over = [set(marks) for marks in over]
     reached = [set() for _ in parents]
-    for a, b in ties:
+    for a, b, _ in ties:
         for u, y in ((a, b), (b, a)):
             for x in [u] + over[u]:
                 if y in is_over[x]:

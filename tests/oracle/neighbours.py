@@ -1,13 +1,13 @@
 """Document 02, Paper 1: runs of neighbours. The runs are found as the drawing desk found them, by a scan of the whole
 list for each rank. Calls answer as those of document 01 do."""
 
-from .calls import MAX_TIES, bad_count, fault
-from .forest import ties_of
+from .calls import MAX_TIES, bad_count, fault, not_whole
+from .forest import tie_count, ties_of
 
 
 def run_of(rank, ties):
     """The neighbours of a rank in list order, repeats included."""
-    return [b if a == rank else a for a, b in ties if rank in (a, b)]
+    return [b if a == rank else a for a, b, _ in ties if rank in (a, b)]
 
 
 def index_of(n, ties):
@@ -30,9 +30,9 @@ def bad_starts(starts):
 def index_refusal(old, added, starts, neighbours):
     if bad_starts(starts):
         return bad_starts(starts)
-    if len(old) % 2 or len(added) % 2:
+    if not_whole(old) or not_whole(added):
         return 2
-    ties = len(old) // 2 + len(added) // 2
+    ties = tie_count(old) + tie_count(added)
     if len(neighbours) != 2 * ties:
         return 2
     number = fault(len(starts) - 1, list(old) + list(added))

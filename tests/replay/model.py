@@ -4,8 +4,9 @@ tables of a struct stand one behind the other, in the order in which the oracle 
 import itertools
 
 from oracle import between, calls, neighbours
+from oracle.forest import tie_count
 
-NETS, FILES, ROOM, EDGES, BLOCKS = 5, 3, 100, 40, 4
+NETS, FILES, ROOM, EDGES, BLOCKS = 5, 3, 100, 20, 4
 ANY = 0xFFFFFFFF
 MASK = 2**64 - 1
 
@@ -72,21 +73,23 @@ class Model:
             parents[rank] = above if above < n else ANY
             loads[rank] = self.draw(4)
         if kind == 2 and loads:
-            loads[0] += calls.MAX_TOTAL - sum(loads) - self.draw(12)
+            loads[0] += calls.MAX_TOTAL - sum(loads) - self.draw(60)
         return parents, loads
 
     def any_file(self, n):
         length = self.draw(8 * ROOM) if self.rarely() else 8 * n
         return [0 if self.draw(3) == 0 else 255 for _ in range(length)]
 
+    def edge(self, n):
+        a, b = (self.draw(n + (self.draw(200) == 0)) for _ in range(2))
+        if a == b and self.draw(50) != 0:
+            a = (a + 1) % n
+        rows = 7 * self.draw(2) if self.draw(200) == 0 else 1 + self.draw(calls.MAX_ROWS)
+        return a, b, rows
+
     def edges(self, n):
-        flat = [0] * (2 * self.draw(EDGES // 2))
-        for i in range(len(flat)):
-            flat[i] = self.draw(n + (self.draw(200) == 0))
-        for i in range(0, len(flat) - 1, 2):
-            if flat[i] == flat[i + 1] and self.draw(50) != 0:
-                flat[i] = (flat[i] + 1) % n
-        return flat + [0] if self.rarely() else flat
+        flat = end_to_end([self.edge(n) for _ in range(self.draw(EDGES))])
+        return flat + [0] * (1 + self.draw(2)) if self.rarely() else flat
 
     def vertices(self, net):
         return max(1, len(self.nets[net][0]))
@@ -109,8 +112,8 @@ class Model:
 
     def add(self, net):
         flat = self.latest[net] = self.edges(self.vertices(net))
-        work = self.work(len(self.nets[net][0]), len(flat) // 2)
-        return f"add {net}", *self.grown(net, len(flat) // 2, calls.add(*self.nets[net], flat), work)
+        work = self.work(len(self.nets[net][0]), tie_count(flat))
+        return f"add {net}", *self.grown(net, tie_count(flat), calls.add(*self.nets[net], flat), work)
 
     def join(self, net, other):
         work = self.work(len(self.nets[net][0]), 0)
@@ -129,7 +132,7 @@ class Model:
         n = self.vertices(net)
         turn = self.draw(n)
         flat = self.edges(n)
-        work, out = self.work(len(self.nets[net][0]), len(flat) // 2), self.entries(len(flat))
+        work, out = self.work(len(self.nets[net][0]), tie_count(flat)), self.entries(len(flat))
         order = [(i + turn) % n for i in range(n)]
         if self.rarely():
             place = self.draw(n)
@@ -143,15 +146,15 @@ class Model:
 
     def divide(self, net):
         n = self.almost(len(self.nets[net][0]))
-        limit, blocks = self.draw(12), self.draw(BLOCKS + 1)
+        limit, blocks = self.draw(40), self.draw(BLOCKS + 1)
         number, *lent = calls.divide(*self.nets[net], limit, blocks, *self.lent(n, n, n, blocks))
         return f"divide {net}", number, [end_to_end(lent)]
 
     def report(self, net):
         """On the list that was last lent to an addition: the net's own, if it was the first."""
         flat, n = self.latest[net], self.almost(len(self.nets[net][0]))
-        limit, blocks = 1 + self.draw(20), 1 + self.draw(BLOCKS)
-        lent = self.lent(n, n, n, blocks, len(flat) // 2, n, n, n, n, n)
+        limit, blocks = 1 + self.draw(70), 1 + self.draw(BLOCKS)
+        lent = self.lent(n, n, n, blocks, tie_count(flat), n, n, n, n, n)
         outcome = calls.report(*self.nets[net], limit, blocks, flat, *lent)
         return f"report {net}", *self.compared(net, outcome, lent)
 
@@ -165,7 +168,7 @@ class Model:
 
     def compared(self, net, outcome, lent):
         """A call given the net's own edges: it has worked after 23 and 31 too. Each cell holds 7 before."""
-        n, m = len(self.nets[net][0]), len(self.latest[net]) // 2
+        n, m = len(self.nets[net][0]), tie_count(self.latest[net])
         work, needed = self.work(n, m), 3 * n + m
         number, after, cells = outcome[0], list(outcome[1:len(lent) + 1]), outcome[len(lent) + 1:]
         if number != 1 and len(work) < needed:
@@ -178,7 +181,7 @@ class Model:
     def index(self, net):
         """Of the list that was last lent to an addition, and some more."""
         flat, added = self.latest[net], self.edges(self.vertices(net))
-        lent = self.lent(self.almost(self.vertices(net)) + 1, len(flat) + len(added))
+        lent = self.lent(self.almost(self.vertices(net)) + 1, 2 * (tie_count(flat) + tie_count(added)))
         number, *self.indexes[net] = neighbours.index(flat, added, *lent)
         return f"index {net}", number, [end_to_end(self.indexes[net])]
 

@@ -8,7 +8,7 @@
 #include <stdio.h>
 #include <stdlib.h>
 
-enum { NETS = 5, FILES = 3, ROOM = 100, EDGES = 40, BLOCKS = 4 };
+enum { NETS = 5, FILES = 3, ROOM = 100, EDGES = 20, BLOCKS = 4, LIST = NIQASTUL_STRIDE * EDGES };
 
 struct file {
     uint8_t *bytes;
@@ -20,7 +20,7 @@ static struct niqastul_net nets[NETS];
 static struct niqastul_edges latest[NETS];
 static struct niqastul_index_tables indexes[NETS];
 static struct file files[FILES];
-static uint32_t lists[NETS][EDGES + 1], another_list[EDGES + 1], order_list[ROOM];
+static uint32_t lists[NETS][LIST], another_list[LIST], order_list[ROOM];
 
 /* A number below `limit`: Knuth's multiplier, the upper half of the state. */
 static uint32_t draw(uint32_t limit)
@@ -106,7 +106,7 @@ static struct niqastul_net a_net(size_t n)
         net.parents[i] = above < n ? above : NIQASTUL_ABSENT;
         total += net.weights[i] = draw(4);
     }
-    if (kind == 2 && n != 0) net.weights[0] += NIQASTUL_MAX_TOTAL - total - draw(12);
+    if (kind == 2 && n != 0) net.weights[0] += NIQASTUL_MAX_TOTAL - total - draw(60);
     return net;
 }
 
@@ -118,15 +118,23 @@ static struct file a_file(size_t n)
     return file;
 }
 
-/* A list of edges for n vertices: rarely a number too high, rarely a loop, rarely of odd length. */
+/* An edge of n vertices: rarely a number too high, rarely a loop, rarely rows that no edge has. */
+static void draw_edge(uint32_t *edge, uint32_t n)
+{
+    edge[0] = draw(n + (draw(200) == 0));
+    edge[1] = draw(n + (draw(200) == 0));
+    if (edge[0] == edge[1] && draw(50) != 0) edge[0] = (edge[0] + 1) % n;
+    edge[2] = draw(200) == 0 ? 7 * draw(2) : 1 + draw(NIQASTUL_MAX_ROWS);
+}
+
+/* A list of edges: rarely with part of an edge at its end. */
 static struct niqastul_edges edges(uint32_t *list, uint32_t n)
 {
-    size_t length = 2 * draw(EDGES / 2);
-    for (size_t i = 0; i < length; i++) list[i] = draw(n + (draw(200) == 0));
-    for (size_t i = 0; i + 1 < length; i += 2) {
-        if (list[i] == list[i + 1] && draw(50) != 0) list[i] = (list[i] + 1) % n;
+    size_t length = NIQASTUL_STRIDE * draw(EDGES);
+    for (size_t i = 0; i < length; i += NIQASTUL_STRIDE) draw_edge(list + i, n);
+    if (rarely()) {
+        for (uint32_t more = 1 + draw(2); more != 0; more--) list[length++] = 0;
     }
-    if (rarely()) list[length++] = 0;
     return (struct niqastul_edges){list, length};
 }
 
@@ -190,7 +198,7 @@ static void relabel(int net)
 static void divide(int net)
 {
     struct niqastul_net like = almost(nets[net]);
-    uint32_t limit = draw(12), blocks = draw(BLOCKS + 1);
+    uint32_t limit = draw(40), blocks = draw(BLOCKS + 1);
     size_t size = niqastul_division_size(like, blocks);
     uint32_t *memory = lent(size);
     struct niqastul_division division = niqastul_division_in(memory, like, blocks);
@@ -202,7 +210,7 @@ static void divide(int net)
 static void report(int net)
 {
     struct niqastul_net like = almost(nets[net]);
-    uint32_t limit = 1 + draw(20), blocks = 1 + draw(BLOCKS);
+    uint32_t limit = 1 + draw(70), blocks = 1 + draw(BLOCKS);
     size_t size = niqastul_report_size(like, blocks, latest[net]);
     uint32_t *memory = lent(size);
     struct niqastul_report_tables tables = niqastul_report_in(memory, like, blocks, latest[net]);

@@ -15,8 +15,8 @@ def start(t, n, *context):
 def lend(t, name, net, others, *context):
     """Adds or joins, which may be refused; answers the number and the tables afterwards."""
     given = {"parents": net[0], "weights": net[1], "moved": [77]} | others
-    given |= {table: [77] * length for table, length in CALLS[name].work_lengths(given).items()}
-    return CALLS[name].run(t, given, *context)
+    rng = random.Random(sum(map(len, others.values())))
+    return CALLS[name].run(t, inputs.with_work(rng, name, given), *context)
 
 
 def grow(t, name, net, others, *context):

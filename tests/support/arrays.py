@@ -3,7 +3,7 @@
 from array import array
 
 from oracle import calls
-from oracle.forest import ABSENT
+from oracle.forest import ABSENT, tie_count
 from support.library import CALLS
 
 
@@ -11,12 +11,17 @@ def zeros(length):
     return array("I", bytes(4 * length))
 
 
+def edge_list(pairs, rows):
+    """A flat list of edges between pairs of vertices, each of so many rows."""
+    return array("I", [number for a, b in pairs for number in (a, b, rows)])
+
+
 def run(name, **tables):
-    """Calls the library on arrays as they stand; work tables are made here, and the cell of a forest that moves if none
-    is lent."""
+    """Calls the library on arrays as they stand; work tables are made here if none are lent, and so is the cell of a
+    forest that moves."""
     call = CALLS[name]
-    tables = {"moved": zeros(1)} | tables
-    tables |= {table: zeros(length) for table, length in call.work_lengths(tables).items()}
+    work = {table: zeros(length) for table, length in call.work_lengths(tables).items() if table not in tables}
+    tables = {"moved": zeros(1)} | work | tables
     return call.ask(tables, lambda table: tables[table].buffer_info()[0])
 
 
@@ -36,15 +41,16 @@ def a_net(n, edges=()):
 
 
 def a_full_list():
-    """16,000,000 edges, half of them at each of two vertices under a third, and their net."""
-    half = calls.MAX_TIES // 2
-    edges = array("I", [0, 2]) * half + array("I", [2, 1]) * half
-    return edges, (array("I", [2, 2, ABSENT]), array("I", [half, half, 0]))
+    """As many edges as a list may have, half of them at each of two vertices under a third, and of as many rows as they
+    may have; and their net, which has the largest total."""
+    half, rows = calls.MAX_TIES // 2, calls.MAX_ROWS
+    edges = array("I", [0, 2, rows]) * half + array("I", [2, 1, rows]) * half
+    return edges, (array("I", [2, 2, ABSENT]), array("I", [rows * half, rows * half, 0]))
 
 
 def report(net, edges, limit, blocks):
     """Reports on a net with new tables; answers the number and the tables by name."""
-    tables = sevens("report", len(net[0])) | {"block_loads": zeros(blocks), "edge_blocks": zeros(len(edges) // 2)}
+    tables = sevens("report", len(net[0])) | {"block_loads": zeros(blocks), "edge_blocks": zeros(tie_count(edges))}
     return run("report", parents=net[0], weights=net[1], limit=limit, blocks=blocks, edges=edges, **tables), tables
 
 
@@ -62,7 +68,8 @@ def separate(net, one, other, edges):
 
 def made_index(vertices, old_edges, added):
     """Indexes lists into new tables; answers the number and the tables."""
-    starts, neighbours = array("I", [7]) * (vertices + 1), array("I", [7]) * (len(old_edges) + len(added))
+    ends = 2 * (tie_count(old_edges) + tie_count(added))
+    starts, neighbours = array("I", [7]) * (vertices + 1), array("I", [7]) * ends
     return run("index", old_edges=old_edges, added=added, starts=starts, neighbours=neighbours), starts, neighbours
 
 

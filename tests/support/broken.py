@@ -29,7 +29,7 @@ def broken_three(seed, values=256):
     """The three files of a small net, with a faulty tie now and then, and one of them broken."""
     rng = random.Random(seed)
     files = two_files(rng, rng.randrange(1, 8)) + [file_of(rng.randrange(1, 9), rng.randrange(1, 5))]
-    files[1] += file_of(0, 0) * (seed % 10 == 0)
+    files[1] += rng.choice((file_of(0, 0, 1), file_of(0, 1, 7))) * (seed % 10 == 0)
     return broken(rng, files, values)
 
 
@@ -43,6 +43,6 @@ def broken_two(folder, rng, most):
 
 
 def refusal_of_marks(marks, ties, *asked):
-    """That of a run over the two files, with 4 of a mark asked for in its place: before 4 or 5 of a tie."""
+    """That of a run over the two files, with 4 of a mark asked for in its place: before 4, 5 or 32 of a tie."""
     number = blocks.refusal(marks, ties, LARGEST)
-    return 4 if number in (0, 4, 5) and max(asked) >= len(marks) // 4 else number
+    return 4 if number in (0, 4, 5, 32) and max(asked) >= len(marks) // 4 else number

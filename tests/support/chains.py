@@ -26,7 +26,7 @@ SHAPES = nets.SHAPES + [comb, two_paths, two_trees]
 
 def neighbours_of(edges):
     beside = collections.defaultdict(set)
-    for a, b in edges:
+    for a, b, _ in edges:
         beside[a].add(b)
         beside[b].add(a)
     return beside

@@ -3,6 +3,9 @@ are decided later. Faults are triples of a number, a name and a change."""
 
 from oracle.forest import ABSENT
 
+# rows that no edge has: next to those that one may have, and such whose lowest bytes alone would do
+BAD_ROWS = (0, 7, 256, 65_537, 2**31 + 1, ABSENT)
+
 
 def put(table, place, value):
     def change(given):
@@ -51,8 +54,16 @@ def rank_faults(rank, n_of):
 
 def edge_faults(edges, n_of):
     """Of a list, given how n is told by the input."""
-    for place in (0, 2, -2):
+    for place in (0, 3, -3):
         yield 4, f"first end of {edges} {place} is n", put(edges, place, n_of)
         yield 4, f"second end of {edges} {place} is far out", put(edges, place + 1, ABSENT)
         yield 5, f"{edges} {place} is a loop", put(edges, place, lambda g, p=place: g[edges][p + 1])
-    yield 4, f"{edges} 2 is n and n", in_turn(put(edges, 2, n_of), put(edges, 3, n_of))
+        for rows in BAD_ROWS:
+            yield 32, f"{edges} {place} has {rows} rows", put(edges, place + 2, rows)
+    yield 4, f"{edges} 3 is n and n", in_turn(put(edges, 3, n_of), put(edges, 4, n_of))
+
+
+def part_edges(edges):
+    """A list with part of an edge more, or without part of its last."""
+    for by in (1, 2, -1, -2):
+        yield 2, f"{edges} {by:+} numbers", resize(edges, by)

@@ -3,7 +3,7 @@
 from oracle import calls
 from oracle.forest import ABSENT, ties_of
 from support import index_faults, nets
-from support.changes import edge_faults, in_turn, put, rank_faults, resize, resize_all, set_number
+from support.changes import edge_faults, in_turn, part_edges, put, rank_faults, resize, resize_all, set_number
 from support.library import CALLS
 
 # tables whose length is n, or whose wrong lengths are not simply 2
@@ -22,8 +22,8 @@ def lengths(name):
         for by in (-1, 1, 7, -1000):
             yield 2, f"{table} {by:+} entries", resize(table, by)
     if "edges" in CALLS[name].kinds:
-        yield 2, "edges odd", resize("edges", 1)
-        yield 2, "edges one end short", resize("edges", -1)
+        yield from part_edges("edges")
+        yield 2, "one edge more", resize("edges", 3)
 
 
 def damages(parents="parents", weights="weights"):
@@ -65,8 +65,13 @@ def limits():
 
 def other_nets():
     """Edges that are not the net's own."""
+    def one_edge_alone(given):
+        given["edges"] = nets.flat((0, n_of(given) - 1, rows) for _, _, rows in ties_of(given["edges"]))
+
     yield 23, "another weight", put("weights", -1, 1)
-    yield 23, "other edges", lambda g: g.update(edges=nets.flat((0, n_of(g) - 1) for _ in ties_of(g["edges"])))
+    yield 23, "other edges", one_edge_alone
+    for place in (2, -1):
+        yield 23, f"other rows at {place}", put("edges", place, lambda g, p=place: g["edges"][p] % calls.MAX_ROWS + 1)
 
 
 def joins():
@@ -82,7 +87,7 @@ def joins():
 
 
 def additions():
-    yield 20, "one edge too many", lambda g: full("weights", len(g["edges"]) // 2 - 1)(g)
+    yield 20, "one row too many", lambda g: full("weights", calls.rows_of(ties_of(g["edges"])) - 1)(g)
     yield 20, "the net is full", full("weights")
 
 

@@ -1,13 +1,13 @@
 """Files as document 01 has them, as bytes; its whole case; and what the oracle says of link files."""
 
 from oracle import calls
-from oracle.forest import ABSENT, loads_of, parents_of, ties_of
+from oracle.forest import ABSENT, net_of, ties_of
 
 THREE = ("marks.ord", "ties.rec", "want.rec")
 
-# the whole case: an order, ties, and what is printed with a limit of 4 and 2 blocks
+# the whole case: an order, ties of one row each, and what is printed with a limit of 4 and 2 blocks
 ORDER = [3, 0, 1, 2, 4, 5]
-TIES = [3, 1, 3, 4, 0, 2, 0, 4, 1, 5, 1, 3]
+TIES = [3, 1, 1, 3, 4, 1, 0, 2, 1, 0, 4, 1, 1, 5, 1, 1, 3, 1]
 
 WHOLE_CASE = """\
 0 3 2 3 2 2 0 1
@@ -32,8 +32,7 @@ def link_file(order, edges):
     """The link file of the net of edges in mark numbers."""
     number, flat = calls.translate(order, edges, edges)
     assert number == 0
-    n, ties = len(order), ties_of(flat)
-    return bytes(calls.link_file(parents_of(n, ties), loads_of(n, ties)))
+    return bytes(calls.link_file(*net_of(len(order), ties_of(flat))))
 
 
 def moved_line(before, after):

@@ -4,7 +4,7 @@ import collections
 
 from oracle import calls
 from oracle.book import Book
-from oracle.forest import ABSENT, loads_of, parents_of
+from oracle.forest import ABSENT, net_of, tie_count
 from support import inputs, nets
 from support.library import CALLS
 
@@ -35,7 +35,7 @@ class History:
             return [[ABSENT] * n, [0] * max(0, n + self.rng.randrange(-1, 2))]
         parents, weights = nets.sound_net(self.rng, n)
         if kind == 2 and n:
-            weights[0] = calls.MAX_TOTAL - sum(weights[1:]) - self.rng.randrange(9)
+            weights[0] = calls.MAX_TOTAL - sum(weights[1:]) - self.rng.randrange(40)
         return [parents, weights]
 
     def any_file(self, n):
@@ -56,8 +56,9 @@ class History:
         wrote."""
         parents, weights = self.nets[net]
         given = {"parents": parents, "weights": weights} | others | inputs.cells(self.rng, name)
-        for table, length in CALLS[name].work_lengths(given).items():
-            given[table] = nets.garbage(self.rng, length + (self.rng.random() < 0.02))
+        given = inputs.with_work(self.rng, name, given)
+        for table in CALLS[name].named("work"):
+            given[table] += [0] * (self.rng.random() < 0.02)
         number, after = self.run(name, given)
         self.nets[net] = [after["parents"], after["weights"]]
         return number == 0, after
@@ -66,7 +67,7 @@ class History:
         n = len(self.nets[net][0])
         flat = nets.flat(nets.ties(self.rng, n, self.rng.choice(nets.SHAPES))) if n > 1 else []
         if self.rng.random() < 0.1:
-            flat = flat + self.rng.choice(([0], [n, 0], [0, 0], [ABSENT, 1]))
+            flat = flat + self.rng.choice(([0], [0, 1], [n, 0, 1], [0, 0, 1], [ABSENT, 1, 1], [0, 1, 0], [0, 1, 7]))
         return flat
 
     def own_edges(self, net):
@@ -92,7 +93,7 @@ class History:
         elif name in ("save", "read"):
             getattr(self, name)(net, file)
         elif name in ("divide", "report"):
-            self.divide(name, net, self.rng.randrange(9), self.rng.randrange(4))
+            self.divide(name, net, self.rng.randrange(30), self.rng.randrange(4))
         elif name == "separate":
             self.separate(net, *self.two_ranks(net))
         elif name == "relabel":
@@ -127,7 +128,7 @@ class History:
         """Divides a net, or reports on it with its own list if it has one; answers what `call` does."""
         flat = self.own_edges(net)
         others = {"limit": limit, "blocks": k, "block_loads": nets.garbage(self.rng, k)}
-        others |= {"edges": flat, "edge_blocks": nets.garbage(self.rng, len(flat) // 2)}
+        others |= {"edges": flat, "edge_blocks": nets.garbage(self.rng, tie_count(flat))}
         return self.call(name, net, **(self.written(name, net) | others))
 
     def separate(self, net, one, other):
@@ -154,15 +155,15 @@ class History:
         for file, ties in self.book.files.items():
             if ties is not None:
                 n = len(self.files[file]) // 8
-                self.t.same(self.files[file], calls.link_file(parents_of(n, ties), loads_of(n, ties)))
+                self.t.same(self.files[file], calls.link_file(*net_of(n, ties)))
 
     def claim_net(self, net, ties):
-        """It is the net of its list, in any order, and what is made of it fits the list."""
+        """It is the net of its list, in any order in which each tie keeps its rows, and what is made of it fits the
+        list."""
         n, rng = len(net[0]), self.rng
-        self.t.same(net, [parents_of(n, ties), loads_of(n, ties)], ties)
-        shuffled = [tie[::-1] for tie in rng.sample(ties, len(ties))]
-        self.t.same(net, [parents_of(n, shuffled), loads_of(n, shuffled)], shuffled)
-        k, limit = rng.randrange(1, 4), rng.randrange(1, 9)
+        for its in (ties, nets.another_order(rng, ties)):
+            self.t.same(tuple(net), net_of(n, its), its)
+        k, limit = rng.randrange(1, 4), rng.randrange(1, 30)
         if max(net[1]) <= limit:
             _, tops, block, _ = calls.division(*net, limit, k)
             volume = calls.volume_of(calls.block_counts_of(n, ties, calls.tie_blocks_of(ties, block)))

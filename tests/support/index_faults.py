@@ -1,7 +1,7 @@
 """Faults to put into the inputs of the calls of an index."""
 
 from oracle.forest import ABSENT
-from support.changes import edge_faults, in_turn, put, rank_faults, resize, resize_all
+from support.changes import edge_faults, in_turn, part_edges, put, rank_faults, resize, resize_all
 
 
 def n_of(given):
@@ -18,11 +18,15 @@ def index_faults():
     for by in (-1, 1, 2, -2, 7, -1000):
         yield 2, f"neighbours {by:+} entries", resize("neighbours", by)
     for edges in ("old_edges", "added"):
-        for by in (-1, 1):
-            yield 2, f"{edges} {by:+} ends", resize(edges, by)
-            yield 2, f"{edges} {by:+} ends, and as many neighbours", resize_all(by, edges, "neighbours")
+        yield from part_edges(edges)
+        for by in (1, 2, -1, -2):
+            yield 2, f"{edges} {by:+} numbers, and as many neighbours", resize_all(by, edges, "neighbours")
+        yield 2, f"{edges} one edge more", resize(edges, 3)
         yield from edge_faults(edges, n_of)
-    yield 2, "both lists odd, and as many neighbours", in_turn(resize("old_edges", 1), resize("added", -1))
+    for old, added in ((1, -1), (2, -2), (1, 2), (2, 1)):
+        more = resize("neighbours", 2) if added > 0 else in_turn()
+        both = in_turn(resize("old_edges", old), resize("added", added), more)
+        yield 2, f"lists {old:+} and {added:+} numbers, whole edges together", both
     last = put("added", 0, 0), put("added", 1, lambda g: n_of(g) - 1)
     yield 4, "no start for the last vertex", in_turn(*last, resize("starts", -1))
 

@@ -3,8 +3,7 @@
 import itertools
 from array import array
 
-from oracle import between, calls
-from oracle.forest import loads_of, parents_of
+from oracle import between, calls, forest
 from oracle.neighbours import index_of
 from support import nets
 from support.library import CALLS
@@ -28,13 +27,14 @@ def to_write(rng, name, length):
 
 
 def with_work(rng, name, given):
-    lengths = CALLS[name].work_lengths(given)
-    return given | {table: nets.garbage(rng, length) for table, length in lengths.items()}
+    """What a call is given, with its work tables: these hold zeros, as an accepted call leaves them, or anything."""
+    holding = rng.choice((nets.garbage, nets.zeros))
+    return given | {table: holding(rng, length) for table, length in CALLS[name].work_lengths(given).items()}
 
 
 def net_of(n, ties):
     """The two tables of a net, by name."""
-    return {"parents": parents_of(n, ties), "weights": loads_of(n, ties)}
+    return dict(zip(("parents", "weights"), forest.net_of(n, ties)))
 
 
 def a_net(rng, n):
@@ -63,7 +63,8 @@ def separating(rng, n, ties, one, other):
 
 def indexing(rng, n, old_edges, added):
     """A list in two parts, of which an index is to be made."""
-    tables = {"starts": nets.garbage(rng, n + 1), "neighbours": nets.garbage(rng, len(old_edges) + len(added))}
+    ends = 2 * (forest.tie_count(old_edges) + forest.tie_count(added))
+    tables = {"starts": nets.garbage(rng, n + 1), "neighbours": nets.garbage(rng, ends)}
     return {"old_edges": old_edges, "added": added} | tables
 
 
@@ -122,7 +123,7 @@ def separate(rng, n):
     unrelated = []
     while not unrelated:
         ties = nets.ties(rng, n, rng.choice((nets.path, nets.star, nets.tree)))
-        parents = parents_of(n, ties)
+        parents, _ = forest.net_of(n, ties)
         pairs = itertools.permutations(range(n), 2)
         unrelated = [pair for pair in pairs if not between.related(parents, *pair)] or [(0, 0)] * (n < 4)
     return separating(rng, n, ties, *rng.choice(unrelated))

@@ -8,6 +8,7 @@ import functools
 from array import array
 
 from oracle import between, calls, neighbours
+from oracle.forest import tie_count
 from support import ROOT, header
 
 PATH = ROOT / "target" / "lib" / "libniqastul.so"
@@ -62,7 +63,7 @@ class Call:
     def work_lengths(self, given):
         """How long the work tables have to be; `lower` has room for what the call takes in beside the net."""
         n = len(given[self.counted])
-        more = len(given["other_parents"]) if self.name == "join" else len(given.get("edges", ())) // 2
+        more = len(given["other_parents"]) if self.name == "join" else tie_count(given.get("edges", ()))
         return {table: n + more if table == "lower" else n for table in self.named("work")}
 
     def work_end(self, given):

@@ -1,6 +1,7 @@
 """Small nets of many shapes, and tables that did not come from ties. All randomness is from the generator that is
 handed in."""
 
+from oracle.calls import MAX_ROWS
 from oracle.forest import ABSENT
 
 
@@ -67,10 +68,36 @@ def none(rng, n):
 SHAPES = [path, tall, star, complete, cycle, grid, tree, power_law, sparse, dense, islands, none]
 
 
+def with_rows(rng, pairs):
+    """Ties between pairs of marks, with any rows that a tie may have."""
+    return [(a, b, rng.randint(1, MAX_ROWS)) for a, b in pairs]
+
+
+def one_row(pairs):
+    """Ties between pairs of marks, each of one row."""
+    return [(a, b, 1) for a, b in pairs]
+
+
+def turned(tie):
+    """The same tie with its ends exchanged."""
+    a, b, rows = tie
+    return b, a, rows
+
+
+def either_way(rng, ties):
+    """The same ties, the ends of each in either order."""
+    return [tie if rng.random() < 0.5 else turned(tie) for tie in ties]
+
+
+def another_order(rng, ties):
+    """The same ties in another order, the ends of each in either order."""
+    return either_way(rng, rng.sample(ties, len(ties)))
+
+
 def ties(rng, n, shape):
     """A list of ties of a shape among n marks: in a random order of the marks or the shape's own, the ties shuffled or
-    not, some repeated, the ends of each in either order."""
-    found = [tuple(tie) for tie in shape(rng, n)]
+    not, some repeated, the ends of each in either order. A tie that is repeated may have other rows."""
+    found = [tuple(pair) for pair in shape(rng, n)]
     if rng.random() < 0.5:
         order = rng.sample(range(n), n)
         found = [(order[a], order[b]) for a, b in found]
@@ -78,11 +105,11 @@ def ties(rng, n, shape):
         found += rng.choices(found, k=rng.randrange(1, 4))
     if rng.random() < 0.5:
         rng.shuffle(found)
-    return [tie if rng.random() < 0.5 else tie[::-1] for tie in found]
+    return either_way(rng, with_rows(rng, found))
 
 
 def flat(ties):
-    return [end for tie in ties for end in tie]
+    return [number for tie in ties for number in tie]
 
 
 def sound_net(rng, n):
@@ -93,3 +120,7 @@ def sound_net(rng, n):
 
 def garbage(rng, n):
     return [rng.getrandbits(32) for _ in range(n)]
+
+
+def zeros(rng, n):
+    return [0] * n

@@ -13,11 +13,14 @@ FAULTS = [
     (1, {"marks_ord": bytes(4 * calls.MAX_MARKS + 4)}),
     (6, {"marks_ord": WHOLE["marks_ord"] + b"\0"}),
     (6, {"ties_rec": WHOLE["ties_rec"][:-4]}),
+    (6, {"ties_rec": WHOLE["ties_rec"][:-8]}),
     (6, {"ties_rec": b"abc", "marks_ord": bytes(8)}),
     (3, {"marks_ord": file_of(0, 1, 2, 3, 4, 4)}),
-    (3, {"marks_ord": file_of(0, 1, 6), "ties_rec": file_of(7, 7)}),
-    (4, {"ties_rec": file_of(0, 1, 2, 6, 3, 3)}),
-    (5, {"ties_rec": file_of(0, 1, 3, 3, 2, 6)}),
+    (3, {"marks_ord": file_of(0, 1, 6), "ties_rec": file_of(7, 7, 7)}),
+    (4, {"ties_rec": file_of(0, 1, 1, 2, 6, 1, 3, 3, 1)}),
+    (5, {"ties_rec": file_of(0, 1, 1, 3, 3, 0, 2, 6, 1)}),
+    (32, {"ties_rec": file_of(0, 1, 1, 3, 2, 0, 2, 6, 1)}),
+    (32, {"ties_rec": file_of(0, 1, 7, 3, 3, 1)}),
 ]
 
 # faults of want.rec, alone and beside those of the others
@@ -25,12 +28,13 @@ WANTS = [
     (6, {"want_rec": b""}),
     (6, {"want_rec": file_of(4)}),
     (6, {"want_rec": file_of(4, 2, 1), "marks_ord": bytes(8)}),
-    (8, {"want_rec": file_of(0, 2), "ties_rec": file_of(7, 7)}),
+    (8, {"want_rec": file_of(0, 2), "ties_rec": file_of(7, 7, 7)}),
     (8, {"want_rec": file_of(4, 1001)}),
     (8, {"want_rec": file_of(4, 0)}),
     (8, {"want_rec": file_of(calls.MAX_LIMIT + 1, 1)}),
     (3, {"want_rec": file_of(0, 0), "marks_ord": bytes(8)}),
-    (4, {"want_rec": file_of(1, 2), "ties_rec": file_of(0, 6)}),
+    (4, {"want_rec": file_of(1, 2), "ties_rec": file_of(0, 6, 1)}),
+    (32, {"want_rec": file_of(1, 2), "ties_rec": file_of(0, 5, 7)}),
     (22, {"want_rec": file_of(2, 2)}),
 ]
 
@@ -63,9 +67,9 @@ def marks_refused(t, command, good, *among):
             untouched(t, folder, (*words, *good.split()), number, str(fault)[:200])
             for its in among:
                 bad = (*words, *its.format(n).split())
-                untouched(t, folder, bad, 4 if number == 5 else number, str(fault)[:200])
+                untouched(t, folder, bad, 4 if number in (5, 32) else number, str(fault)[:200])
         for bad in (n, n + 1, 2**32 - 1, 2**32, 2**32 + 1, 2**64, 10**40):
-            for ties, its in itertools.product((WHOLE["ties_rec"], file_of(0, 0)), among):
+            for ties, its in itertools.product((WHOLE["ties_rec"], file_of(0, 0, 1)), among):
                 folder.write(**(WHOLE | {"ties_rec": ties}))
                 untouched(t, folder, (*words, *its.format(bad).split()), 4, bad)
         untouched(t, folder, (*words, *good.split()), 5)
@@ -80,6 +84,6 @@ def too_long(t, folder, good, bad):
             file.write(file_of(*tie))
         t.same(folder.run(*words)[::2], (1, text))
 
-    refused(good, "refused 20: more than 16,000,000 edges in all\n", 0, 1)
+    refused(good, "refused 20: more than 16,000,000 edges in a list, or 96,000,000 rows in all\n", 0, 1, 1)
     refused(bad, "refused 4: an edge or a query names a vertex out of range\n")
-    refused(good, "refused 5: both ends of an edge are one vertex\n", 1, 1)
+    refused(good, "refused 5: both ends of an edge are one vertex\n", 1, 1, 1)

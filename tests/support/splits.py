@@ -4,7 +4,7 @@ import collections
 import random
 
 from oracle import calls
-from oracle.forest import loads_of, parents_of, ties_of
+from oracle.forest import net_of, pairs_of, ties_of
 from support import nets
 from support.files import file_of
 
@@ -18,7 +18,7 @@ class Case:
         self.order, self.ties = rng.sample(range(n), n), nets.ties(rng, n, rng.choice(nets.SHAPES))
         flat = nets.flat(self.ties)
         ranks = ties_of(calls.translate(self.order, flat, flat)[1])
-        parents, loads = parents_of(n, ranks), loads_of(n, ranks)
+        parents, loads = net_of(n, ranks)
         self.limit, self.k = max(loads) + rng.randrange(1, 9), rng.randrange(1, 7)
         _, tops, self.own, self.loads = calls.division(parents, loads, self.limit, self.k)
         self.tie_blocks = calls.tie_blocks_of(ranks, self.own)
@@ -36,14 +36,14 @@ class Case:
     def border(self, block):
         """Each mark with ties in the block and in others, with those others."""
         met = collections.defaultdict(set)
-        for tie, its in zip(self.ties, self.tie_blocks):
-            for mark in tie:
+        for pair, its in zip(pairs_of(self.ties), self.tie_blocks):
+            for mark in pair:
                 met[mark].add(its)
         shared = {mark: blocks for mark, blocks in sorted(met.items()) if block in blocks and len(blocks) > 1}
         return {mark: sorted(blocks - {block}) for mark, blocks in shared.items()}
 
     def rows(self):
         """The figures of each block."""
-        marks = [len(set(nets.flat(self.of_block(block)))) for block in range(self.k)]
+        marks = [len(set(nets.flat(pairs_of(self.of_block(block))))) for block in range(self.k)]
         return [{"block": block, "load": self.loads[block], "ties": len(self.of_block(block)), "marks": marks[block],
                  "own": self.own.count(block), "border": len(self.border(block))} for block in range(self.k)]

@@ -1,10 +1,10 @@
 """Niqastul from Python: elimination forests of graphs, grown, joined and divided, and indexes of neighbours, by a proved library.
 
     net = Net(vertices)                 a graph of so many vertices, 0 to vertices-1 in an elimination order, with no edges
-    net.add([0, 1, 1, 2])               add the edges 0-1 and 1-2
+    net.add([0, 1, 1, 1, 2, 6])         add the edges 0-1, of one row, and 1-2, of six
     net.join(other)                     add all edges of another net; both answer the lowest rank whose parent is now another, or None
     net.save(), net.read(data)          the net as bytes, and back
-    net.parents, net.weights            the elimination forest, ABSENT for no parent; the edges by their lower end
+    net.parents, net.weights            the elimination forest, ABSENT for no parent; the rows of the edges, by lower end
     net.divide(limit, blocks)           the forest cut into groups that carry at most the limit, and packed into blocks
     net.report(limit, blocks, edges)    that, and what it costs: block counts, bound and volume of communication; and the even share
     net.separate(one, other, edges)     what lies between two vertices: those above both, one of which every chain of edges passes
@@ -13,6 +13,9 @@
     index.neighbours(rank)              those of a rank
 
 The same on files, from the command line: python3 -m niqastul -h.
+
+An edge is three numbers in every list: its two vertices and its rows, 1 to MAX_ROWS. A levelled difference gives the adjustment one
+equation row, a satellite vector three, a full pose six. Weights are sums of rows.
 
 A table is an array("I"), or any other contiguous buffer of unsigned 32-bit numbers, as ctypes, memoryview and numpy
 have them. Its buffer says what it is, and how long; anything else is a TypeError that names the table. An argument may
@@ -31,12 +34,14 @@ import ctypes
 
 from .calls import MAX_VERTICES, Refused, call, rank_word, within
 from .index import Index
-from .tables import length, table, zeros
+from .tables import STRIDE, edge_count, length, table, zeros
 
 ABSENT = 0xFFFFFFFF
-MAX_LIMIT = 16_000_000
-MAX_BLOCKS = 1_000
+MAX_ROWS = 6
 MAX_EDGES = 16_000_000
+MAX_TOTAL = 96_000_000
+MAX_LIMIT = 96_000_000
+MAX_BLOCKS = 1_000
 
 # A net divided: for each vertex what it carries (at a top, the weight of its group), the top of its group and its block; the load of
 # each block. A vertex that is its own top and has a parent is cut off from it.
@@ -75,7 +80,7 @@ class Net:
         """Adds edges, as a whole or not at all. Answers the lowest rank whose parent is now another: who keeps a copy of the parents
         rereads them from there on. None if none moved; a weight alone that rises moves nothing."""
         edges = table("edges", edges)
-        return self._grow("add", [edges], length("edges", edges) // 2)
+        return self._grow("add", [edges], edge_count("edges", edges))
 
     def join(self, other):
         """Adds all edges of another net, which stays as it is; answers what add does."""
@@ -110,7 +115,7 @@ class Net:
         """Divides, and reports what the division costs, given all edges of the net in any order."""
         limit, blocks = within("limit", limit, MAX_LIMIT), within("blocks", blocks, MAX_BLOCKS)
         edges = table("edges", edges)
-        n, m = self._vertices(), length("edges", edges) // 2
+        n, m = self._vertices(), edge_count("edges", edges)
         its, tables, lent = to_divide(n, blocks), [zeros(m), zeros(n), zeros(n), zeros(n)], to_compare(n, m)
         bound, volume, quotient, remainder = ctypes.c_uint64(), ctypes.c_uint64(), ctypes.c_uint32(), ctypes.c_uint32()
         call("report", self.parents, self.weights, limit, blocks, edges, *its, *tables, *lent, bound, volume, quotient, remainder)
@@ -119,7 +124,7 @@ class Net:
     def separate(self, one, other, edges):
         """What lies between two vertices of which neither is above the other, given all edges of the net in any order: a Separator."""
         one, other, edges = rank_word("one", one), rank_word("other", other), table("edges", edges)
-        n, m, count, lowest = self._vertices(), length("edges", edges) // 2, ctypes.c_uint32(), ctypes.c_uint32()
+        n, m, count, lowest = self._vertices(), edge_count("edges", edges), ctypes.c_uint32(), ctypes.c_uint32()
         separator = zeros(n)
         call("separate", self.parents, self.weights, one, other, edges, separator, *to_compare(n, m), count, lowest)
         return Separator(separator[:count.value], told(lowest))
@@ -144,7 +149,7 @@ def told(cell):
 
 
 def relabel(order, edges):
-    """An edge list in vertex numbers, as ranks in an order: the vertex order[r] has rank r."""
+    """An edge list in vertex numbers, as ranks in an order: the vertex order[r] has rank r. Each edge keeps its rows."""
     order, edges = table("order", order), table("edges", edges)
     out = zeros(length("edges", edges))
     call("relabel", order, edges, out, zeros(length("order", order)))

@@ -12,9 +12,9 @@ what lies between two marks."""
 
 FORMATS = """files, little-endian 32-bit numbers without a header:
   marks.ord   the order: mark numbers, the first to be eliminated first
-  ties.rec    ties, two mark numbers each
-  want.rec    the limit of a group's load, 1 to 16,000,000, and the number of blocks, 1 to 1,000
-  net.link    a link file: for each rank its parent, FFFFFFFF for none, and its load
+  ties.rec    ties, three numbers each: two mark numbers, and the rows that the tie gives the adjustment, 1 to 6
+  want.rec    the limit of a group's load, 1 to 96,000,000, and the number of blocks, 1 to 1,000
+  net.link    a link file: for each rank its parent, FFFFFFFF for none, and its load, the rows of its ties to higher ranks
 exit status:
   0   done; for together: the blocks are the net
   1   refused, with the number and its meaning; for together: the blocks are not the net, or not as they were split
@@ -34,12 +34,12 @@ JOIN = """join two nets and write the link file of the ties of both
 
 SPLIT = """divide a net and write its blocks as files
 DIR is made, or is empty, or holds an earlier split, which is replaced whole. In it are
-  block-NNN.rec      the ties of a block, in the order of ties.rec
+  block-NNN.rec      the ties of a block with their rows, in the order of ties.rec
   block-NNN.border   a line for each mark with ties in this block and in others: the mark, then those other blocks
   summary.txt        marks, ties, limit, bound, volume, share (the total of the loads divided by the number of blocks: the
-                     whole quotient and the remainder), and of each block: load, ties, marks (with a tie in it),
-                     own (marks whose group is in it), border (marks with ties in other blocks too)
-  summary.json       the same, and a digest of each block's ties"""
+                     whole quotient and the remainder), and of each block: load (the rows of its ties), ties, marks (with
+                     a tie in it), own (marks whose group is in it), border (marks with ties in other blocks too)
+  summary.json       the same, and a digest of each block's ties and their rows"""
 
 TOGETHER = """say whether the blocks, laid together, are the net
 Grows each block's file by itself, joins the nets, and compares the result with net.link, byte for byte. What leaves the net

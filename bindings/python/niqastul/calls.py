@@ -10,7 +10,7 @@ from .loading import load
 from .tables import BYTES_READ, BYTES_WRITTEN, WORDS_READ, WORDS_WRITTEN, address, copied, lend
 
 # The name carries the version of the header: a library of another version takes other arguments than those below.
-LIBRARY = "libniqastul.so.0.7"
+LIBRARY = "libniqastul.so.0.8"
 
 # What each call is lent, in the order of include/niqastul.h: `name` is a table that is read, `name!` one that is
 # written, `name:` and `name:!` are such tables of bytes, and `name#` is a number or a cell.
@@ -35,19 +35,20 @@ KINDS = {"": WORDS_READ, "!": WORDS_WRITTEN, ":": BYTES_READ, ":!": BYTES_WRITTE
 # the texts of niqastul_text in include/niqastul.h
 REASONS = {
     1: "no vertex, or more than 1,000,000",
-    2: "a table of the wrong length, or an edge list of odd length",
+    2: "a table of the wrong length, or an edge list that is not whole edges",
     3: "an entry of the order is out of range or repeats",
     4: "an edge or a query names a vertex out of range",
     5: "both ends of an edge are one vertex",
     6: "not whole records, or not as many as the net has vertices",
     7: "a record's parent is neither absent nor above its vertex",
     8: "a limit or a number of blocks out of range",
-    20: "more than 16,000,000 edges in all",
+    20: "more than 16,000,000 edges in a list, or 96,000,000 rows in all",
     21: "two nets with different numbers of vertices",
     22: "a weight above the limit",
     23: "the edges are not those of the net",
     30: "a net or an index whose tables are damaged",
     31: "the two ranks are equal, or one stands above the other",
+    32: "the rows of an edge are not 1 to 6",
 }
 
 MAX_RANK = 0xFFFFFFFF

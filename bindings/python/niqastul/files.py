@@ -6,7 +6,10 @@ import shutil
 import sys
 from array import array
 
-from . import Refused
+from . import STRIDE, Refused
+
+# the bytes of a record: a mark of an order, a tie, a rank of a link file
+MARK, TIE, LINK = 4, 4 * STRIDE, 8
 
 
 class Unusable(Exception):
@@ -19,9 +22,11 @@ def content(path):
 
 
 def whole(data, size):
-    """The bytes, refused unless they are whole records of a size."""
+    """The bytes, refused unless they are whole records of a size, which the refusal then names."""
     if len(data) % size:
-        raise Refused(6)
+        refusal = Refused(6)
+        refusal.args = (f"{refusal}: {len(data):,} bytes, and a record has {size}",)
+        raise refusal
     return data
 
 

@@ -1,5 +1,5 @@
 """A net and its division, from files. A run counts as one call: of the refusals that apply, the first in document 01's order is
-given, 1, 6, 3, 8, 4 of a mark that is asked for, 4 or 5 of a tie, 20, 22. Each is the library's own answer but 6, which speaks of
+given, 1, 6, 3, 8, 4 of a mark that is asked for, 4, 5 or 32 of a tie, 20, 22. Each is the library's own answer but 6, which speaks of
 files."""
 
 import collections
@@ -40,9 +40,9 @@ def grown(progress, marks, ties, want=None, asked=()):
 
 def order_of_files(marks, ties=b"", want=None, link=None):
     """The order, once the bytes of all files are whole records, and as many as there have to be: 1, 6, 3."""
-    Net(len(marks) // 4)
-    files.whole(marks, 4)
-    files.whole(ties, 8)
+    Net(len(marks) // files.MARK)
+    files.whole(marks, files.MARK)
+    files.whole(ties, files.TIE)
     if want is not None and len(want) != 8 or link is not None and len(link) != 2 * len(marks):
         raise Refused(6)
     order = files.numbers(marks)

@@ -3,7 +3,7 @@
 import ctypes
 
 from .calls import MAX_VERTICES, call, rank_word, within
-from .tables import WORDS_READ, export, length, table, zeros
+from .tables import WORDS_READ, edge_count, export, table, zeros
 
 
 class Index:
@@ -12,9 +12,9 @@ class Index:
     tables may be read and written, and others put in their place: a call checks what they are, and where runs start."""
 
     def __init__(self, vertices, edges, added=()):
-        """The index of edges, two ranks to an edge, followed by those that are added to them."""
+        """The index of edges, three numbers to an edge, followed by those that are added to them. It has no rows."""
         n, edges, added = within("vertices", vertices, MAX_VERTICES), table("edges", edges), table("added", added)
-        self.starts, self.runs = zeros(n + 1), zeros(length("edges", edges) + length("added", added))
+        self.starts, self.runs = zeros(n + 1), zeros(2 * (edge_count("edges", edges) + edge_count("added", added)))
         call("index", edges, added, self.starts, self.runs)
 
     def neighbours(self, rank):

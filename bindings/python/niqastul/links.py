@@ -8,7 +8,7 @@ def grow(progress, marks, ties, out):
 
 
 def add(progress, marks, link, ties, out):
-    """1, 6, 3, 4 or 5 of a tie, 7, 20 of the link file, then 20 with the ties."""
+    """1, 6, 3, 4, 5 or 32 of a tie, 7, 20 of the link file, then 20 with the ties."""
     marks, link, ties = (files.content(path) for path in (marks, link, ties))
     order = graph.order_of_files(marks, ties, link=link)
     progress.at("adding the ties")
@@ -20,9 +20,9 @@ def add(progress, marks, link, ties, out):
 def join(progress, one, other, out):
     """1, 6, 21, 7 and 20 of either file, then 20 of both together."""
     data = [files.content(path) for path in (one, other)]
-    nets = [Net(len(its) // 8) for its in data]
+    nets = [Net(len(its) // files.LINK) for its in data]
     for its in data:
-        files.whole(its, 8)
+        files.whole(its, files.LINK)
     nets[0].join(nets[1])
     read_both(nets, data)
     progress.at("joining")

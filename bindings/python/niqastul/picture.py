@@ -14,7 +14,7 @@ def picture(progress, marks, ties, want, placed, out):
         title, drawing = "A divided net", places.drawn(its, report, places.read(placed, len(its.order)))
     height, drawn, samples, notes = drawing
     loads = list(report.division.block_loads)
-    figures = [f"{len(its.order):,} marks, {len(its.edges) // 2:,} ties", f"limit {limit:,}, {len(loads):,} block{'s' * (len(loads) > 1)}",
+    figures = [f"{len(its.order):,} marks, {len(report.edge_blocks):,} ties", f"limit {limit:,}, {len(loads):,} block{'s' * (len(loads) > 1)}",
                f"bound {report.bound:,}", f"volume {report.volume:,}",
                f"share {report.share.quotient:,}, remainder {report.share.remainder:,}"]
     files.replace(out, beside_legend(title, height, drawn, legend.Legend(figures, loads, samples, notes)).encode())

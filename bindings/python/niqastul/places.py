@@ -2,7 +2,7 @@
 
 import math
 
-from . import files, legend, svg
+from . import STRIDE, files, legend, svg
 from .thinning import note, thinned
 
 MOST_EDGES = 12_000
@@ -45,7 +45,7 @@ def drawn(its, report, points):
     radius = min(3.5, max(0.7, 0.14 * math.sqrt(svg.PLOT * height / len(points))))
     by_block = {}
     for edge in edges:
-        ends = its.edges[2 * edge:2 * edge + 2]
+        ends = its.edges[STRIDE * edge:STRIDE * edge + 2]
         by_block.setdefault(report.edge_blocks[edge], []).append([points[its.order[end]] for end in ends])
     room = math.sqrt(svg.PLOT * height / max(1, len(edges)))
     specks = sum(math.dist(*ends) for lines in by_block.values() for ends in lines) < room / 4 * len(edges)

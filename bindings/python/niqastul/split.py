@@ -1,6 +1,6 @@
 """A divided net as a folder of files: for each block its edges and its border, and a summary.
 
-    block-NNN.rec       the edges of a block in vertex numbers, as they stand in the edge file
+    block-NNN.rec       the edges of a block in vertex numbers, with their rows, as they stand in the edge file
     block-NNN.border    a line for each vertex with edges in this block and in others: its number, then those others
     summary.txt, summary.json       the figures, for readers and for programs
 """
@@ -9,10 +9,11 @@ import hashlib
 import json
 import os
 import re
+import struct
 import sys
 from array import array
 
-from . import files, graph
+from . import STRIDE, files, graph
 
 OURS = re.compile(r"block-\d{3}\.(rec|border)|summary\.(txt|json)")
 SUMMARY = "summary.json"
@@ -32,14 +33,14 @@ def split(progress, marks, ties, want, folder):
         progress.at("dealing the ties to their blocks")
         parts = dealt(its.ties, report)
         borders, vertices = bordered(progress, parts, by_vertex(its.order, report.block_count))
-        rows = []
+        figures = []
         for block, (edges, border) in enumerate(zip(parts, borders)):
             progress.at(f"writing block {block} of {len(parts)}")
-            data = edges.tobytes()
-            write(part, edge_file(block), data)
+            write(part, edge_file(block), edges)
             write(part, border_file(block), border_text(block, border).encode())
-            rows.append({"ties": len(edges), "marks": vertices[block], "border": len(border), "digest": digest(files.numbers(data))})
-        summary = summed(limit, report, rows)
+            figures.append({"ties": len(edges) // files.TIE, "marks": vertices[block], "border": len(border),
+                            "digest": digest(files.numbers(edges))})
+        summary = summed(limit, report, figures)
         write(part, SUMMARY, (json.dumps(summary, indent=1) + "\n").encode())
         write(part, "summary.txt", summary_text(summary).encode())
 
@@ -55,11 +56,11 @@ def write(folder, name, data):
 
 
 def dealt(ties, report):
-    """The edges of each block, in the order of the list; an edge is 8 bytes that nobody looks into."""
-    parts = [array("Q") for _ in report.division.block_loads]
-    appends = [part.append for part in parts]
-    for edge, block in zip(array("Q", ties), report.edge_blocks):
-        appends[block](edge)
+    """The edges of each block, in the order of the list; an edge is a record that nobody looks into."""
+    parts = [bytearray() for _ in report.division.block_loads]
+    extends = [part.extend for part in parts]
+    for (edge,), block in zip(struct.iter_unpack(f"{files.TIE}s", ties), report.edge_blocks):
+        extends[block](edge)
     return parts
 
 
@@ -76,7 +77,8 @@ def bordered(progress, parts, block_count):
     blocks_of, borders, vertices = {}, [], []
     for block, edges in enumerate(parts):
         progress.at(f"listing the border of block {block} of {len(parts)}")
-        met = set(files.numbers(edges.tobytes()))
+        numbers = files.numbers(edges)
+        met = set(numbers[0::STRIDE]).union(numbers[1::STRIDE])
         border = sorted(vertex for vertex in met if block_count[vertex] > 1)
         for vertex in border:
             blocks_of.setdefault(vertex, []).append(block)
@@ -91,21 +93,23 @@ def border_text(block, border):
 
 
 def digest(edges):
-    """SHA-256 of edges as they were sorted, each with its lower vertex first: the same in whatever order edges and ends stand."""
-    pairs = zip(edges[0::2], edges[1::2])
-    its = array("Q", sorted(a << 32 | b if a < b else b << 32 | a for a, b in pairs))
+    """SHA-256 of edges, each as one number: its lower vertex, its higher one, of 32 bits, and its rows, of 3. They are sorted: it is the
+    same in whatever order edges and ends stand."""
+    numbers = zip(*(edges[place::STRIDE] for place in range(STRIDE)))
+    its = array("Q", sorted((a << 32 | b if a < b else b << 32 | a) << 3 | rows for a, b, rows in numbers))
     if sys.byteorder == "big":
         its.byteswap()
     return hashlib.sha256(its).hexdigest()
 
 
-def summed(limit, report, rows):
-    """The figures of a split. `marks` are those with a tie in the block, `own` those whose group is in it, with or without ties."""
-    own = [0] * len(rows)
+def summed(limit, report, figures):
+    """The figures of a split. `load` is the sum of the rows of the ties, `marks` are those with a tie in the block, `own` those whose
+    group is in it, with or without ties."""
+    own = [0] * len(figures)
     for block in report.division.block:
         own[block] += 1
-    blocks = [{"block": block, "load": report.division.block_loads[block], "own": own[block], **row} for block, row in enumerate(rows)]
-    return {"marks": sum(own), "ties": sum(row["ties"] for row in rows), "limit": limit, "bound": report.bound, "volume": report.volume,
+    blocks = [{"block": block, "load": report.division.block_loads[block], "own": own[block], **its} for block, its in enumerate(figures)]
+    return {"marks": sum(own), "ties": len(report.edge_blocks), "limit": limit, "bound": report.bound, "volume": report.volume,
             "share": {"quotient": report.share.quotient, "remainder": report.share.remainder}, "blocks": blocks}
 
 

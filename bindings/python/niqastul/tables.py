@@ -24,6 +24,9 @@ NATIVE = "@=<" if sys.byteorder == "little" else "@=>"
 # what ctypes finds at the start of any buffer, be it empty
 NOTHING = ctypes.c_char * 0
 
+# the numbers to an edge in a list: its ends and its rows
+STRIDE = 3
+
 
 def zeros(length):
     return array("I", [0]) * length
@@ -53,6 +56,11 @@ def length(name, entries):
     """The number of entries of a table of words."""
     with export(name, WORDS_READ, entries) as view:
         return len(view)
+
+
+def edge_count(name, entries):
+    """The number of whole edges in a list."""
+    return length(name, entries) // STRIDE
 
 
 def lend(name, kind, entries):

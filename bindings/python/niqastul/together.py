@@ -3,7 +3,7 @@
 import json
 import os
 
-from . import ABSENT, Net, files, graph, relabel, split
+from . import ABSENT, STRIDE, Net, files, graph, relabel, split
 
 
 def together(progress, marks, folder, link):
@@ -44,10 +44,11 @@ def grown(progress, order, folder, summary, found):
         progress.at(f"growing block {block} of {len(summary)}")
         name, net = split.edge_file(block), Net(len(order))
         with files.of_file(name):
-            edges = files.numbers(files.whole(files.content(os.path.join(folder, name)), 8))
+            edges = files.numbers(files.whole(files.content(os.path.join(folder, name)), files.TIE))
             net.add(relabel(order, edges))
-        if len(edges) != 2 * load:
-            found.append(f"{name} has {len(edges) // 2} ties, its load in the summary is {load}")
+        rows = sum(edges[2::STRIDE])
+        if rows != load:
+            found.append(f"{name} has {rows} rows, its load in the summary is {load}")
         elif split.digest(edges) != digest:
             found.append(f"{name} has other ties than the summary was made of")
         yield net
@@ -69,9 +70,13 @@ def joined(nets):
 
 def difference(order, laid, wanted):
     """The first rank at which the nets differ."""
-    rank = next(place for place in range(len(order)) if laid[8 * place:8 * place + 8] != wanted[8 * place:8 * place + 8])
-    shown = [shown_record(data[8 * rank:8 * rank + 8]) for data in (laid, wanted)]
+    rank = next(rank for rank in range(len(order)) if record(laid, rank) != record(wanted, rank))
+    shown = [shown_record(record(data, rank)) for data in (laid, wanted)]
     return f"first at rank {rank}, mark {order[rank]}: {shown[0]} laid together, {shown[1]} in the net"
+
+
+def record(link, rank):
+    return link[files.LINK * rank:files.LINK * (rank + 1)]
 
 
 def shown_record(record):

@@ -1,6 +1,6 @@
 //! Runs of neighbours, kept beside an edge list.
 
-use crate::{tables, Refusal, MAX_VERTICES};
+use crate::{tables, Refusal, MAX_VERTICES, STRIDE};
 
 /// For each vertex its neighbours in the order of an edge list, repeats included: its run. All runs stand in one table, end to end by
 /// rising rank.
@@ -11,7 +11,7 @@ pub struct Index {
 }
 
 impl Index {
-    /// The index of edges, two ranks to an edge, among so many vertices.
+    /// The index of edges, three numbers to an edge, among so many vertices. It has no rows.
     pub fn new(vertices: usize, edges: &[u32]) -> Result<Index, Refusal> {
         Index::with_added(vertices, edges, &[])
     }
@@ -20,7 +20,8 @@ impl Index {
     pub fn with_added(vertices: usize, old_edges: &[u32], added: &[u32]) -> Result<Index, Refusal> {
         // no vertex is refused as too many are, and needs no table
         let vertices = if vertices > MAX_VERTICES { 0 } else { vertices };
-        let mut its = Index { starts: vec![0; vertices + 1], runs: vec![0; old_edges.len() + added.len()] };
+        let edges = old_edges.len() / STRIDE + added.len() / STRIDE;
+        let mut its = Index { starts: vec![0; vertices + 1], runs: vec![0; 2 * edges] };
         tables::index(old_edges, added, &mut its.starts, &mut its.runs)?;
         Ok(its)
     }

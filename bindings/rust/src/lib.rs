@@ -5,15 +5,20 @@
 //! slices that the caller lends, with no allocation. Every call is safe: the library checks all that its tables hold, and what is
 //! left, that a table to be written overlaps no other, is what `&mut` says.
 //!
+//! An edge is three numbers in every list: its two vertices and its rows, 1 to [`MAX_ROWS`]. A levelled difference gives the adjustment
+//! one equation row, a satellite vector three, a full pose six. Weights are sums of rows.
+//!
 //! ```
 //! let mut net = niqastul::Net::new(4)?;
-//! net.add(&[0, 1, 0, 2])?;
-//! assert_eq!(net.add(&[0, 3])?, Some(2)); // the lowest rank whose parent is now another
+//! net.add(&[0, 1, 1, 0, 2, 6])?; // 0-1 of one row, 0-2 of six
+//! assert_eq!(net.add(&[0, 3, 1])?, Some(2)); // the lowest rank whose parent is now another
 //! assert_eq!(net.parents(), [1, 2, 3, niqastul::ABSENT]);
-//! assert_eq!(net.add(&[1, 2])?, None); // none moved
-//! assert_eq!(net.add(&[0, 4]), Err(niqastul::Refusal::BadVertex));
-//! assert_eq!(net.divide(3, 2)?.block, [0, 1, 1, 1]);
-//! assert_eq!(niqastul::Index::new(4, &[0, 1, 2, 0, 0, 3])?.neighbours(0)?, [1, 2, 3]);
+//! assert_eq!(net.add(&[1, 2, 3])?, None); // none moved
+//! assert_eq!(net.weights(), [8, 3, 0, 0]);
+//! assert_eq!(net.add(&[0, 4, 1]), Err(niqastul::Refusal::BadVertex));
+//! assert_eq!(net.add(&[0, 3, 7]), Err(niqastul::Refusal::BadRows));
+//! assert_eq!(net.divide(8, 2)?.block, [0, 1, 1, 1]);
+//! assert_eq!(niqastul::Index::new(4, &[0, 1, 1, 2, 0, 1, 0, 3, 1])?.neighbours(0)?, [1, 2, 3]);
 //! # Ok::<(), niqastul::Refusal>(())
 //! ```
 
@@ -28,20 +33,23 @@ pub use index::Index;
 /// The parent of a vertex that has none.
 pub const ABSENT: u32 = 0xFFFF_FFFF;
 
-/// The numbers to an edge in a list: its ends.
-pub const STRIDE: usize = 2;
+/// The numbers to an edge in a list: its ends and its rows.
+pub const STRIDE: usize = 3;
 
 /// The largest number of vertices of a net or an index.
 pub const MAX_VERTICES: usize = 1_000_000;
 
+/// The largest number of rows of an edge.
+pub const MAX_ROWS: u32 = 6;
+
 /// The largest number of edges of a list that is added, given as a net's own or indexed.
 pub const MAX_EDGES: usize = 16_000_000;
 
-/// The largest total of the weights of a net.
-pub const MAX_TOTAL: u32 = 16_000_000;
+/// The largest total of the weights of a net, in rows.
+pub const MAX_TOTAL: u32 = 96_000_000;
 
-/// The largest limit on the weight that a group may carry.
-pub const MAX_LIMIT: u32 = 16_000_000;
+/// The largest limit on the weight that a group may carry, in rows.
+pub const MAX_LIMIT: u32 = 96_000_000;
 
 /// The largest number of blocks.
 pub const MAX_BLOCKS: u32 = 1_000;
@@ -52,7 +60,7 @@ pub const MAX_BLOCKS: u32 = 1_000;
 pub enum Refusal {
     /// No vertex, or more than [`MAX_VERTICES`].
     BadCount = 1,
-    /// A table of the wrong length, an edge list of odd length, or no starts of an index.
+    /// A table of the wrong length, an edge list that is not whole edges, or no starts of an index.
     WrongLength = 2,
     /// Bytes that are not a file of as many records as there are vertices.
     BadFile = 6,
@@ -69,9 +77,11 @@ pub enum Refusal {
     BadVertex = 4,
     /// The first faulty edge has one vertex as both its ends.
     Loop = 5,
+    /// The first faulty edge has rows that are not 1 to [`MAX_ROWS`].
+    BadRows = 32,
     /// A record's parent is neither absent nor above its vertex.
     BadParent = 7,
-    /// A total above [`MAX_TOTAL`], or a list of more than [`MAX_EDGES`] edges.
+    /// A list of more than [`MAX_EDGES`] edges, or a total above [`MAX_TOTAL`].
     Full = 20,
     /// A weight above the limit, so that no cutting can hold it.
     TooHeavy = 22,
@@ -83,11 +93,11 @@ pub enum Refusal {
 
 impl Refusal {
     #[rustfmt::skip]
-    const ALL: [Refusal; 14] = {
+    const ALL: [Refusal; 15] = {
         use Refusal::*;
         [
-            BadCount, WrongLength, BadFile, BadOrder, BadLimit, UnlikeCounts, Damaged, BadVertex, Loop, BadParent, Full, TooHeavy, OtherEdges,
-            Related,
+            BadCount, WrongLength, BadFile, BadOrder, BadLimit, UnlikeCounts, Damaged, BadVertex, Loop, BadRows, BadParent, Full, TooHeavy,
+            OtherEdges, Related,
         ]
     };
 
@@ -101,7 +111,7 @@ impl Refusal {
         use Refusal::*;
         match self {
             BadCount => "no vertex, or more than 1,000,000",
-            WrongLength => "a table of the wrong length, or an edge list of odd length",
+            WrongLength => "a table of the wrong length, or an edge list that is not whole edges",
             BadFile => "not whole records, or not as many as the net has vertices",
             BadOrder => "an entry of the order is out of range or repeats",
             BadLimit => "a limit or a number of blocks out of range",
@@ -109,8 +119,9 @@ impl Refusal {
             Damaged => "a net or an index whose tables are damaged",
             BadVertex => "an edge or a query names a vertex out of range",
             Loop => "both ends of an edge are one vertex",
+            BadRows => "the rows of an edge are not 1 to 6",
             BadParent => "a record's parent is neither absent nor above its vertex",
-            Full => "more than 16,000,000 edges in all",
+            Full => "more than 16,000,000 edges in a list, or 96,000,000 rows in all",
             TooHeavy => "a weight above the limit",
             OtherEdges => "the edges are not those of the net",
             Related => "the two ranks are equal, or one stands above the other",
@@ -147,13 +158,14 @@ impl Net {
         &self.parents
     }
 
-    /// The number of edges whose lower end a vertex is.
+    /// The sum of the rows of the edges whose lower end a vertex is.
     pub fn weights(&self) -> &[u32] {
         &self.weights
     }
 
-    /// Adds edges, two ranks to an edge, as a whole or not at all. Answers the lowest rank whose parent is now another: who keeps a
-    /// copy of the parents rereads them from there on. `None` if none moved; a weight alone that rises moves nothing.
+    /// Adds edges, as a whole or not at all: three numbers to an edge, two ranks and its rows. Answers the lowest rank whose parent is
+    /// now another: who keeps a copy of the parents rereads them from there on. `None` if none moved; a weight alone that rises moves
+    /// nothing.
     pub fn add(&mut self, edges: &[u32]) -> Result<Option<u32>, Refusal> {
         self.work.resize(self.parents.len(), edges.len() / STRIDE);
         tables::add(&mut self.parents, &mut self.weights, edges, &mut self.work)
@@ -231,7 +243,7 @@ impl Net {
     /// What lies between two vertices of which neither stands above the other, given all edges of the net in any order.
     ///
     /// ```
-    /// let edges = [0, 2, 1, 2, 2, 3];
+    /// let edges = [0, 2, 1, 1, 2, 1, 2, 3, 1];
     /// let mut net = niqastul::Net::new(5)?;
     /// net.add(&edges)?;
     /// let between = net.separate(0, 1, &edges)?;
@@ -342,7 +354,7 @@ impl PartialEq for Net {
 
 impl Eq for Net {}
 
-/// An edge list in vertex numbers, as ranks in an order: the vertex `order[r]` has rank r.
+/// An edge list in vertex numbers, as ranks in an order: the vertex `order[r]` has rank r. Each edge keeps its rows.
 pub fn relabel(order: &[u32], edges: &[u32]) -> Result<Vec<u32>, Refusal> {
     let (mut out, mut inverse) = (vec![0; edges.len()], vec![0; order.len()]);
     tables::relabel(order, edges, &mut out, &mut inverse)?;

@@ -137,7 +137,7 @@ impl Work {
 // What every call below owes the library: each pointer leads to as many entries as the length beside it says, and no table that is
 // written overlaps another. Slices keep the first, and `&mut` the second.
 
-/// Writes an edge list in vertex numbers as ranks to `out`, and the rank of each vertex to `inverse`.
+/// Writes an edge list in vertex numbers as ranks to `out`, each edge with its rows, and the rank of each vertex to `inverse`.
 pub fn relabel(order: &[u32], edges: &[u32], out: &mut [u32], inverse: &mut [u32]) -> Result<(), Refusal> {
     answer(unsafe {
         library::niqastul_relabel(

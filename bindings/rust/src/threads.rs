@@ -1,7 +1,7 @@
 //! Adding a long list in several threads: each grows the net of a part of the list, and the library joins them. The law of joined
 //! forests has it that the tables are those of one call.
 
-use crate::{Net, Refusal, STRIDE};
+use crate::{Net, Refusal, MAX_EDGES, STRIDE};
 
 impl Net {
     /// Adds edges as [`Net::add`] does, in up to so many threads: the same answer and the same tables, or the same refusal and the net
@@ -11,8 +11,10 @@ impl Net {
     /// Panics if the system cannot start a thread; the net is then as it was.
     pub fn add_in_threads(&mut self, edges: &[u32], threads: usize) -> Result<Option<u32>, Refusal> {
         // no part has fewer edges than the net has vertices
-        let threads = threads.min(edges.len() / STRIDE / self.parents.len().max(1));
-        if threads < 2 {
+        let count = edges.len() / STRIDE;
+        let threads = threads.min(count / self.parents.len().max(1));
+        // parts of a list that is too long may each be short enough, and their rows fit the net
+        if threads < 2 || count > MAX_EDGES {
             return self.add(edges);
         }
         // a copy, so that the net is as it was if a part is refused; work tables are only room, and go along
@@ -36,7 +38,7 @@ fn grow(mut net: Net, edges: &[u32], threads: usize) -> Result<(Net, Option<u32>
         return Ok((net, moved));
     }
     let others = threads / 2;
-    let (left, right) = edges.split_at(edges.len() - edges.len() / STRIDE / threads * others * STRIDE);
+    let (left, right) = cut(edges, threads, others);
     let empty = Net::new(net.parents.len())?;
     let (left, right) = std::thread::scope(|scope| {
         let right = scope.spawn(|| grow(empty, right, others));
@@ -46,4 +48,24 @@ fn grow(mut net: Net, edges: &[u32], threads: usize) -> Result<(Net, Option<u32>
     let (right, _) = right?;
     let joined = whole.join(&right)?;
     Ok((whole, moved.into_iter().chain(joined).min()))
+}
+
+/// A list in two parts, of which the right is for so many of the threads. It is whole edges: where the list is not, the left part is
+/// refused, as the list would be.
+fn cut(edges: &[u32], threads: usize, others: usize) -> (&[u32], &[u32]) {
+    edges.split_at(edges.len() - edges.len() / STRIDE / threads * others * STRIDE)
+}
+
+// Seen only here: a list cut within an edge would be refused in parts, and then added in one thread, with the right answer.
+#[test]
+fn cut_at_whole_edges() {
+    for (count, threads) in (0..40).flat_map(|count| (2..9).map(move |threads| (count, threads))) {
+        for rest in 0..STRIDE {
+            let edges: Vec<u32> = (0..(STRIDE * count + rest) as u32).collect();
+            let (left, right) = cut(&edges, threads, threads / 2);
+            assert_eq!([left, right].concat(), edges);
+            assert_eq!(right.len(), STRIDE * (count / threads) * (threads / 2));
+            assert_eq!(left.len() % STRIDE, rest);
+        }
+    }
 }

@@ -1,7 +1,8 @@
 //! Runs of neighbours through the safe interface: values, lists in two parts, every refusal, tables left alone.
-use niqastul::{tables, Index, Refusal, MAX_VERTICES};
+use niqastul::{tables, Index, Refusal, MAX_VERTICES, STRIDE};
 
-const EDGES: [u32; 12] = [0, 2, 0, 4, 1, 3, 1, 4, 2, 5, 2, 0];
+// runs have no rows, be there one or several
+const EDGES: [u32; 18] = [0, 2, 1, 0, 4, 6, 1, 3, 1, 1, 4, 3, 2, 5, 1, 2, 0, 2];
 
 #[test]
 fn runs() {
@@ -20,7 +21,7 @@ fn runs() {
 #[test]
 fn in_two_parts() {
     let whole = Index::new(7, &EDGES).unwrap();
-    for place in (0..=EDGES.len()).step_by(2) {
+    for place in (0..=EDGES.len()).step_by(STRIDE) {
         assert_eq!(Index::with_added(7, &EDGES[..place], &EDGES[place..]).unwrap(), whole);
     }
 }
@@ -32,10 +33,14 @@ fn refusals() {
     assert_eq!(Index::new(usize::MAX, &[0]), Err(Refusal::BadCount));
     assert_eq!(Index::new(MAX_VERTICES, &[]).unwrap().neighbours(MAX_VERTICES as u32 - 1), Ok(&[][..]));
     assert_eq!(Index::new(3, &EDGES[1..]), Err(Refusal::WrongLength));
-    assert_eq!(Index::with_added(3, &[0], &[1]), Err(Refusal::WrongLength));
-    assert_eq!(Index::with_added(3, &[0, 1], &[3, 3]), Err(Refusal::BadVertex));
-    assert_eq!(Index::with_added(3, &[1, 1], &[0, 3]), Err(Refusal::Loop));
-    let index = Index::new(3, &[0, 1]).unwrap();
+    // each list has to be whole edges by itself
+    assert_eq!(Index::with_added(3, &[0], &[1, 1]), Err(Refusal::WrongLength));
+    assert_eq!(Index::with_added(3, &[0, 1], &[1]), Err(Refusal::WrongLength));
+    assert_eq!(Index::with_added(3, &[0, 1, 1], &[3, 3, 1]), Err(Refusal::BadVertex));
+    assert_eq!(Index::with_added(3, &[1, 1, 1], &[0, 3, 1]), Err(Refusal::Loop));
+    assert_eq!(Index::with_added(3, &[1, 0, 0], &[0, 3, 1]), Err(Refusal::BadRows));
+    assert_eq!(Index::with_added(3, &[1, 0, 6], &[0, 2, 7]), Err(Refusal::BadRows));
+    let index = Index::new(3, &[0, 1, 1]).unwrap();
     assert_eq!(index.neighbours(3), Err(Refusal::BadVertex));
     assert_eq!(index.neighbours(u32::MAX), Err(Refusal::BadVertex));
 }
@@ -44,22 +49,24 @@ fn refusals() {
 fn lent_tables() {
     let (mut starts, mut neighbours) = ([7; 4], [7; 4]);
     let mut index = |vertices: usize, added: &[u32], length: usize| {
-        let answer = tables::index(&[0, 1], added, &mut starts[..vertices + 1], &mut neighbours[..length]);
+        let answer = tables::index(&[0, 1, 1], added, &mut starts[..vertices + 1], &mut neighbours[..length]);
         (answer, starts, neighbours)
     };
     let untouched = ([7; 4], [7; 4]);
-    let cases: [(usize, &[u32], usize, Refusal); 5] = [
-        (0, &[1, 2], 3, Refusal::BadCount),
-        (3, &[1, 2], 3, Refusal::WrongLength),
-        (3, &[1, 2, 0], 4, Refusal::WrongLength),
-        (2, &[1, 2], 4, Refusal::BadVertex),
-        (3, &[2, 2], 4, Refusal::Loop),
+    let cases: [(usize, &[u32], usize, Refusal); 7] = [
+        (0, &[1, 2, 1], 3, Refusal::BadCount),
+        (3, &[1, 2, 1], 3, Refusal::WrongLength),
+        (3, &[1, 2], 4, Refusal::WrongLength),
+        (3, &[1, 2, 1, 0], 4, Refusal::WrongLength),
+        (2, &[1, 2, 1], 4, Refusal::BadVertex),
+        (3, &[2, 2, 1], 4, Refusal::Loop),
+        (3, &[1, 2, 7], 4, Refusal::BadRows),
     ];
     for (vertices, added, length, refusal) in cases {
         let (answer, starts, neighbours) = index(vertices, added, length);
         assert_eq!((answer, (starts, neighbours)), (Err(refusal), untouched));
     }
-    assert_eq!(index(3, &[1, 2], 4), (Ok(()), [0, 1, 3, 4], [1, 0, 2, 1]));
+    assert_eq!(index(3, &[1, 2, 6], 4), (Ok(()), [0, 1, 3, 4], [1, 0, 2, 1]));
     assert_eq!(tables::index(&[], &[], &mut [], &mut []), Err(Refusal::WrongLength));
 }
 

@@ -1,5 +1,5 @@
 //! A list added in several threads is the list added at once; and calls on different tables run in different threads.
-use niqastul::{relabel, tables, Net, Refusal, ABSENT};
+use niqastul::{relabel, tables, Net, Refusal, ABSENT, MAX_EDGES, MAX_ROWS, MAX_TOTAL, STRIDE};
 
 const THREADS: [usize; 6] = [0, 1, 2, 3, 8, usize::MAX];
 
@@ -15,15 +15,15 @@ impl Random {
         ((z ^ z >> 31) % bound as u64) as usize
     }
 
-    /// So many edges on two or more vertices: anywhere, between neighbours, or all at one vertex.
+    /// So many edges on two or more vertices: anywhere, between neighbours, or all at one vertex; with any rows.
     fn edges(&mut self, vertices: usize, count: usize) -> Vec<u32> {
         let (shape, hub) = (self.below(3), self.below(vertices));
         let mut list = Vec::new();
-        while list.len() < 2 * count {
+        while list.len() < STRIDE * count {
             let a = if shape == 2 { hub } else { self.below(vertices) };
             let b = if shape == 1 { (a + 1) % vertices } else { self.below(vertices) };
             if a != b {
-                list.extend([a as u32, b as u32]);
+                list.extend([a as u32, b as u32, 1 + self.below(MAX_ROWS as usize) as u32]);
             }
         }
         list
@@ -72,55 +72,66 @@ fn many_nets() {
 #[test]
 fn moved_as_one() {
     // the line of the net itself tells: what moved in a part that another thread grew from nothing does not count
-    let (left, right): (Vec<u32>, Vec<u32>) = ([3, 4].repeat(20), [1, 2].repeat(20));
+    let (left, right): (Vec<u32>, Vec<u32>) = ([3, 4, 1].repeat(20), [1, 2, 6].repeat(20));
     let lists = [[&left[..], &right], [&right, &left]].map(|parts| parts.concat());
     for edges in lists {
         assert_eq!(same_as_one(&net(5, &[]), &edges), Ok(Some(1)));
-        assert_eq!(same_as_one(&net(5, &[1, 2]), &edges), Ok(Some(3)));
-        assert_eq!(same_as_one(&net(5, &[3, 4]), &edges), Ok(Some(1)));
-        assert_eq!(same_as_one(&net(5, &[1, 2, 3, 4]), &edges), Ok(None));
+        assert_eq!(same_as_one(&net(5, &[1, 2, 1]), &edges), Ok(Some(3)));
+        assert_eq!(same_as_one(&net(5, &[3, 4, 1]), &edges), Ok(Some(1)));
+        assert_eq!(same_as_one(&net(5, &[1, 2, 1, 3, 4, 1]), &edges), Ok(None));
         // vertex 1 has another parent then, and vertex 0 the same
-        assert_eq!(same_as_one(&net(5, &[0, 1, 1, 4]), &edges), Ok(Some(1)));
+        assert_eq!(same_as_one(&net(5, &[0, 1, 1, 1, 4, 1]), &edges), Ok(Some(1)));
     }
 }
 
 #[test]
 fn few_edges() {
     assert_eq!(same_as_one(&net(1, &[]), &[]), Ok(None));
-    assert_eq!(same_as_one(&net(3, &[0, 2]), &[]), Ok(None));
-    assert_eq!(same_as_one(&net(3, &[0, 2]), &[0, 1]), Ok(Some(0)));
-    assert_eq!(same_as_one(&net(3, &[0, 2]), &[2, 1]), Ok(Some(1)));
-    assert_eq!(same_as_one(&net(3, &[]), &[0, 2, 1, 0]), Ok(Some(0)));
-    assert_eq!(same_as_one(&net(3, &[]), &[0, 2, 1, 0, 2, 1]), Ok(Some(0)));
-    assert_eq!(same_as_one(&net(2, &[]), &[0, 1, 1, 0, 0, 1, 0, 1]), Ok(Some(0)));
+    assert_eq!(same_as_one(&net(3, &[0, 2, 1]), &[]), Ok(None));
+    assert_eq!(same_as_one(&net(3, &[0, 2, 1]), &[0, 1, 1]), Ok(Some(0)));
+    assert_eq!(same_as_one(&net(3, &[0, 2, 1]), &[2, 1, 3]), Ok(Some(1)));
+    assert_eq!(same_as_one(&net(3, &[]), &[0, 2, 1, 1, 0, 6]), Ok(Some(0)));
+    assert_eq!(same_as_one(&net(3, &[]), &[0, 2, 1, 1, 0, 6, 2, 1, 2]), Ok(Some(0)));
+    assert_eq!(same_as_one(&net(2, &[]), &[0, 1, 1, 1, 0, 2, 0, 1, 3, 0, 1, 4]), Ok(Some(0)));
 }
 
 #[test]
 fn refused_as_one() {
-    let before = net(10, &[0, 9, 3, 4]);
+    let before = net(10, &[0, 9, 1, 3, 4, 1]);
     let good = Random(2).edges(10, 50);
-    let faulty = |faults: &[(usize, u32)]| {
+    let faulty = |faults: &[(usize, Refusal)]| {
         let mut edges = good.clone();
-        for &(edge, other) in faults {
-            edges[2 * edge + 1] = if other == 5 { edges[2 * edge] } else { 10 };
+        for &(edge, refusal) in faults {
+            let place = STRIDE * edge;
+            match refusal {
+                Refusal::BadRows => edges[place + 2] = MAX_ROWS + 1,
+                Refusal::Loop => edges[place + 1] = edges[place],
+                _ => edges[place + 1] = 10,
+            }
         }
         edges
     };
     // in each part, and in two: the first of the list counts, whichever part is done first
-    for edge in [0, 24, 25, 49] {
-        assert_eq!(same_as_one(&before, &faulty(&[(edge, 4)])), Err(Refusal::BadVertex));
-        assert_eq!(same_as_one(&before, &faulty(&[(edge, 5)])), Err(Refusal::Loop));
+    let refusals = [Refusal::BadVertex, Refusal::Loop, Refusal::BadRows];
+    for refusal in refusals {
+        for edge in [0, 24, 25, 49] {
+            assert_eq!(same_as_one(&before, &faulty(&[(edge, refusal)])), Err(refusal));
+        }
+        for other in refusals {
+            assert_eq!(same_as_one(&before, &faulty(&[(20, refusal), (30, other)])), Err(refusal));
+        }
     }
-    assert_eq!(same_as_one(&before, &faulty(&[(20, 5), (30, 4)])), Err(Refusal::Loop));
-    assert_eq!(same_as_one(&before, &faulty(&[(20, 4), (30, 5)])), Err(Refusal::BadVertex));
-    assert_eq!(same_as_one(&before, &good[1..]), Err(Refusal::WrongLength));
+    // lists that are not whole edges, where they begin and where they end
+    for part in [&good[1..], &good[2..], &good[..good.len() - 1], &good[..good.len() - 2]] {
+        assert_eq!(same_as_one(&before, part), Err(Refusal::WrongLength));
+    }
     assert_eq!(same_as_one(&Net::default(), &good), Err(Refusal::BadCount));
     assert_eq!(same_as_one(&Net::default(), &[]), Err(Refusal::BadCount));
 }
 
-/// A net of three vertices with a total of 16,000,000 less so much, by joins.
-fn nearly_full(less: usize) -> Net {
-    let (mut full, mut rest) = (net(3, &[0, 2]), 15_999_999 - less);
+/// A net of three vertices with the largest total less so much, by joins.
+fn nearly_full(less: u32) -> Net {
+    let (mut full, mut rest) = (net(3, &[0, 2, 1]), MAX_TOTAL - 1 - less);
     let mut power = full.clone();
     while rest > 0 {
         if rest % 2 == 1 {
@@ -136,11 +147,28 @@ fn nearly_full(less: usize) -> Net {
 
 #[test]
 fn full_as_one() {
-    let edges = [0, 1].repeat(10);
-    assert_eq!(same_as_one(&nearly_full(10), &edges), Ok(Some(0)));
-    assert_eq!(same_as_one(&nearly_full(9), &edges), Err(Refusal::Full));
-    assert_eq!(same_as_one(&nearly_full(0), &edges), Err(Refusal::Full));
-    assert_eq!(same_as_one(&nearly_full(0), &[&edges[..], &[1, 1]].concat()), Err(Refusal::Loop));
+    for rows in [1, MAX_ROWS] {
+        let edges = [0, 1, rows].repeat(10);
+        assert_eq!(same_as_one(&nearly_full(10 * rows), &edges), Ok(Some(0)));
+        assert_eq!(same_as_one(&nearly_full(10 * rows - 1), &edges), Err(Refusal::Full));
+        assert_eq!(same_as_one(&nearly_full(0), &edges), Err(Refusal::Full));
+        assert_eq!(same_as_one(&nearly_full(0), &[&edges[..], &[1, 1, 1]].concat()), Err(Refusal::Loop));
+    }
+}
+
+#[test]
+fn long_lists_as_one() {
+    // one edge more than a list may have: each part has fewer, and the rows fit
+    let mut edges = [0, 1, 1].repeat(MAX_EDGES + 1);
+    let mut net = net(3, &[0, 2, 1]);
+    let before = net.clone();
+    assert_eq!(net.add_in_threads(&edges, 2), Err(Refusal::Full));
+    *edges.last_mut().unwrap() = 0;
+    assert_eq!(net.add_in_threads(&edges, 2), Err(Refusal::BadRows));
+    assert_eq!(net, before);
+    edges.truncate(STRIDE * MAX_EDGES);
+    assert_eq!(net.add_in_threads(&edges, 2), Ok(Some(0)));
+    assert_eq!(net.weights(), [MAX_EDGES as u32 + 1, 0, 0]);
 }
 
 /// A history of calls on tables of its own; one net is read by all.
@@ -152,9 +180,9 @@ fn history(seed: u64, shared: &Net) -> (Net, Vec<u8>, Vec<u32>, niqastul::Report
         let edges = random.edges(vertices, vertices);
         net.add(&edges).unwrap();
         all.extend(edges);
-        assert_eq!(net.add(&[0, 0]), Err(Refusal::Loop));
+        assert_eq!(net.add(&[0, 0, 1]), Err(Refusal::Loop));
     }
-    let report = net.report(vertices as u32 * 5, 7, &all).unwrap();
+    let report = net.report(vertices as u32 * 5 * MAX_ROWS, 7, &all).unwrap();
     let backward: Vec<u32> = (0..vertices as u32).rev().collect();
     let ranks = relabel(&backward, &all).unwrap();
     net.join(shared).unwrap();

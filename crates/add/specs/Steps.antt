@@ -4,11 +4,11 @@ use mathlib.Core.Path.{_≡_}
 use mathlib.Core.List.{List}
 use Prim.Native.Nat.{ℕ}
 use lib.ListN.{length, replicate}
-use Rattle.game.specs.Edge.{edges}
+use Rattle.game.specs.Edge.{ties}
 use Rattle.game.specs.Game.{absent}
 use Rattle.rising.specs.Rising.{Rises}
 
 -- no vertex has a parent, and the list rises
 pub record RisingFirst (p xs : List ℕ) : Type 0 where
   pub blank : p ≡ replicate (length p) absent
-  pub rises : Rises (length p) 0 (edges xs)
+  pub rises : Rises (length p) 0 (ties xs)

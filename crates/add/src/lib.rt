@@ -1,5 +1,5 @@
-// The call add. The tables are read first, then the list for its faults; a long list is counted by upper end in the same sweep, unless it
-// is the first and its upper ends rise.
+// The call add. The tables are read first, then the list for its faults; a long list is counted by upper end and its rows are charged in
+// the same sweep, unless it is the first and its upper ends rise.
 use moved::GrowthAnswer;
 use net::Net;
 ghost use mathlib.Core.Path.{_≡_};
@@ -23,9 +23,9 @@ fn is_rising_first(parents: &[u32], edges: &[u32], counted: bool) -> bool
     false
 }
 
-// Adds a list of edges to a net, as a whole or not at all: the parents become those of the elimination game on the old links and the
-// new edges, and each edge raises the weight of its lower end. The work tables take n, n and n + m entries for n vertices and m
-// edges; they end as zeros. Answers where the forest moved.
+// Adds a list of ties to a net, as a whole or not at all: the parents become those of the elimination game on the old links and the new
+// edges, and each tie raises the weight of its lower end by its rows. The work tables take n, n and n + m entries for n vertices and m
+// ties; they end as zeros. Answers where the forest moved.
 pub fn add(
     parents: &mut [u32],
     weights: &mut [u32],
@@ -42,13 +42,13 @@ pub fn add(
     if found.code != 0 {
         return GrowthAnswer::Refused(found.code);
     }
-    let long = insert::is_long(parents.len(), edge::count(edges));
-    let counted = long & !found.heavy;
+    let m = edge::count(edges);
+    let counted = insert::is_long(parents.len(), m) & add_refusal::is_light(found.total, m);
     if is_rising_first(parents, edges, counted) {
         let lowest = rising::grow_list(parents, weights, edges, ends, jump, lower);
         return moved::accepted(lowest);
     }
-    let code = add_refusal::read_list(edges, ends, found.heavy, counted);
+    let code = add_refusal::read_list(edges, ends, jump, found.total, counted);
     if code != 0 {
         return GrowthAnswer::Refused(code);
     }

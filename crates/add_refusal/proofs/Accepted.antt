@@ -6,11 +6,12 @@ use mathlib.Core.List.{List}
 use Prim.Native.Nat.{ℕ, _+_, _≤_}
 use lib.ListN.{length}
 use borrow.Author.Tests.{ltb-false}
-use Rattle.game.specs.Edge.{edges}
+use Rattle.game.specs.Edge.{ties, edges}
 use Rattle.game.specs.Net.{total, charges}
-use Rattle.refusal.specs.Limits.{maxTotal}
+use Rattle.refusal.specs.Limits.{maxTotal, maxEdges}
 use Rattle.refusal.specs.Refusal.{firstFault, notWhole}
 use Rattle.refusal.proofs.First.{first-none, given-none}
+use Rattle.refusal.proofs.ListRefusal.{list-passed}
 use Rattle.growth.specs.Work.{NetWithWork}
 use Rattle.add_refusal.specs.Refused.{addRefusal}
 use Rattle.growth.proofs.Whole.{Whole, Room, whole, room}
@@ -18,9 +19,10 @@ use Rattle.growth.proofs.Whole.{Whole, Room, whole, room}
 pub record Addable (g : NetWithWork) (xs : List ℕ) : Type 0 where
   pub net : Whole (g .net)
   pub work : Room (length (g .net .parents)) (length (g .net .parents) + length (edges xs)) (g .work)
-  pub even : notWhole xs ≡ false
-  pub faultless : firstFault (length (g .net .parents)) (edges xs) ≡ 0
-  pub light : total (g .net) + charges (edges xs) ≤ maxTotal
+  pub all : notWhole xs ≡ false
+  pub faultless : firstFault (length (g .net .parents)) (ties xs) ≡ 0
+  pub few : length (edges xs) ≤ maxEdges
+  pub light : total (g .net) + charges (ties xs) ≤ maxTotal
 
 pub addable : (g : NetWithWork) (xs : List ℕ) → addRefusal g xs ≡ 0 → Addable g xs
 unfolding addRefusal
@@ -35,7 +37,8 @@ addable g xs z =
     record {
       net = whole (g .net) (given-none _ _ (a .0)) (given-none _ _ (b .0)) (given-none _ _ (e .0));
       work = room _ _ (g .work) (given-none _ _ (d .0));
-      even = given-none _ _ (c .0);
-      faultless = f .0;
+      all = given-none _ _ (c .0);
+      faultless = list-passed _ xs (f .0) .0;
+      few = list-passed _ xs (f .0) .1;
       light = ltb-false _ _ (given-none _ _ (h .0));
     }

@@ -1,20 +1,18 @@
 // What adding is refused for: by the tables, which are read first, and then by the list. A list that is to be counted by upper end is
-// counted in the sweep that finds its faults.
+// counted in the sweep that finds its faults, and its rows are charged in the same sweep.
 use net::Net;
 ghost use mathlib.Core.Path.{_≡_};
-ghost use mathlib.Core.Bool.{true, false};
-ghost use Prim.Native.Nat.{_^_, _<_};
-ghost use lib.ListN.{length};
-ghost use Rattle.game.specs.Edge.{edges as edgesOf};
+ghost use mathlib.Core.Bool.{true};
+ghost use Prim.Native.Nat.{_≤_};
 ghost use Rattle.game.specs.Net.{net};
+ghost use Rattle.refusal.specs.Limits.{maxTotal};
 ghost use Rattle.growth.specs.Work.{withWork, workOf};
-ghost use Rattle.add_refusal.specs.Steps.{TablesRead, ListRead};
+ghost use Rattle.add_refusal.specs.Steps.{LightList, TablesRead, ListReadable, ListRead};
 
-// What the tables tell before the list is read: the number for which adding is refused; or 0, and whether the list is too heavy for the
-// net, that is, would bring its total above the limit. A fault of the list comes before that.
+// What the tables tell before the list is read: the number for which adding is refused; or 0, and the net's total.
 pub struct Found {
     pub code: u32,
-    pub heavy: bool,
+    pub total: u64,
 }
 
 pub fn read_tables(
@@ -26,47 +24,65 @@ pub fn read_tables(
     lower: &[u32],
 ) -> Found
     ensures { λ r. ⌜
-        TablesRead (withWork (net (now (parents .entry)) (now (weights .entry))) (workOf (now (ends .entry)) (now (jump .entry)) (now (lower .entry)))) (now (edges .entry)) (r .code) (r .heavy) ⌝ }
+        TablesRead (withWork (net (now (parents .entry)) (now (weights .entry))) (workOf (now (ends .entry)) (now (jump .entry)) (now (lower .entry)))) (now (edges .entry)) (r .code) (r .total) ⌝ }
 {
     let n = parents.len();
-    let heavy = false;
+    let total = 0;
     if refusal::bad_count(n) {
-        return Found { code: 1, heavy };
+        return Found { code: 1, total };
     }
     if weights.len() != n {
-        return Found { code: 2, heavy };
+        return Found { code: 2, total };
     }
     if refusal::not_whole(edges) {
-        return Found { code: 2, heavy };
+        return Found { code: 2, total };
     }
     let m = edge::count(edges);
     if growth::bad_work(n, n + m, ends.len(), jump.len(), lower.len()) {
-        return Found { code: 2, heavy };
+        return Found { code: 2, total };
     }
     let net = Net::of(weights);
     if net.is_damaged(parents) {
-        return Found { code: 30, heavy };
+        return Found { code: 30, total };
     }
-    let total = net.total + m as u64;
     Found {
         code: 0,
-        heavy: Net::MAX_TOTAL < total,
+        total: net.total,
     }
 }
 
-// The number for which the list is refused, or 0. Where it is to be counted, the table of ends has its counts if it is not refused.
-pub fn read_list(edges: &[u32], ends: &mut [u32], heavy: bool, counted: bool) -> u32
-    requires { ⌜ (counted ≡ true → (heavy ≡ false) × (length (edgesOf (now edges)) < 2 ^ 32)) ⌝ }
-    ensures { λ r. ⌜ ListRead (now (edges .entry)) heavy counted (now (ends .entry)) (now (ends .exit)) r ⌝ }
+// Whether a list of m ties cannot bring a total above the limit, whatever their rows. A list that is put on an empty net is light, if it is
+// not too long: so nearly every list that is long is.
+pub fn is_light(total: u64, m: usize) -> bool
+    requires { ⌜ total ≤ maxTotal ⌝ }
+    ensures { λ r. ⌜ (r ≡ true → LightList total m) ⌝ }
+{
+    if refusal::MAX_EDGES < m {
+        return false;
+    }
+    total + refusal::MAX_ROWS as u64 * m as u64 <= Net::MAX_TOTAL
+}
+
+// The number for which the list is refused, or 0. A list that is to be counted is light, so that its faults alone decide; if it has none,
+// the table of ends has its counts, and the table of jumps what each vertex is charged.
+pub fn read_list(
+    edges: &[u32],
+    ends: &mut [u32],
+    jump: &mut [u32],
+    total: u64,
+    counted: bool,
+) -> u32
+    requires { ⌜ ListReadable (now edges) total counted (now ends) (now jump) ⌝ }
+    ensures { λ r. ⌜ ListRead (now (edges .entry)) total counted (now (ends .entry)) (now (jump .entry)) (now (ends .exit)) (now (jump .exit)) r ⌝ }
 {
     if counted {
-        return bucket::count_upper(edges, ends);
+        return bucket::count_list(edges, ends, jump);
     }
-    let fault = refusal::list_fault(ends.len(), edges);
-    if fault != 0 {
-        return fault;
+    let code = refusal::list_refusal(ends.len(), edges);
+    if code != 0 {
+        return code;
     }
-    if heavy {
+    if Net::MAX_TOTAL < total + edge::charges(edges) {
         return 20;
     }
     0

@@ -1,7 +1,6 @@
 -- Laws of comparing, by subject. Nothing here needs to be believed: it is all proved.
 pub mod Compared
 pub mod Ready
-pub mod Refused
 pub mod Sameness
 pub mod Told
 pub mod Unlike

@@ -6,14 +6,13 @@ use mathlib.Core.List.{List}
 use Prim.Native.Nat.{ℕ, _+_, _≤_}
 use native.Mathlib.Omega.{arith}
 use lib.ListN.{length}
-use Rattle.game.specs.Edge.{edges}
+use Rattle.game.specs.Edge.{ties, edges}
 use Rattle.game.specs.Net.{Net}
 use Rattle.game.proofs.Bools.{or-neither}
 use Rattle.refusal.specs.Limits.{maxVertices}
-use Rattle.refusal.specs.Refusal.{firstFault}
+use Rattle.refusal.specs.Refusal.{firstFault, listRefusal}
 use Rattle.refusal.proofs.First.{length-right}
-use Rattle.compare.specs.Likeness.{listRefusal}
-use Rattle.compare.proofs.Refused.{list-passed}
+use Rattle.refusal.proofs.ListRefusal.{list-passed}
 use Rattle.growth.specs.Work.{Work}
 use Rattle.growth.proofs.Rooms.{good-work}
 use Rattle.compare.specs.Compare.{wrongCompared}
@@ -45,7 +44,7 @@ comparable of xs compared work n w l z =
       growable = record {
         vertices = omega (arith, l .parents);
         few = list .1;
-        faultless = ap (λ (m : ℕ). firstFault m (edges xs)) (l .parents) ∙ list .0;
+        faultless = ap (λ (m : ℕ). firstFault m (ties xs)) (l .parents) ∙ list .0;
         weights = l .weights ∙ sym (l .parents);
         ends = l .ends ∙ sym (l .parents);
         jump = l .jump ∙ sym (l .parents);

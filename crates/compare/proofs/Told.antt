@@ -6,7 +6,7 @@ use mathlib.Core.List.{List}
 use Prim.Native.Nat.{ℕ}
 use native.Mathlib.Omega.{arith}
 use lib.ListN.{length}
-use Rattle.game.specs.Edge.{edges}
+use Rattle.game.specs.Edge.{withoutRows, ties}
 use Rattle.game.specs.Net.{Net, net, netOf}
 use Rattle.game.proofs.Forest.{forest-length}
 use Rattle.game.proofs.Weights.{weights-length}
@@ -22,23 +22,23 @@ use Rattle.compare.specs.OwnSteps.{Tellable, Told}
 
 module _ {p w xs cp cw e j l : List ℕ} (t : Tellable (net p w) xs (net cp cw) (workOf e j l)) where
   first : FirstList xs (net cp cw) (workOf e j l)
-  first = record { fits = t .compares .growable; some = omega (arith, t .some, t .compares .parents); even = t .even }
+  first = record { fits = t .compares .growable; some = omega (arith, t .some, t .compares .parents); all = t .all }
 
   module _ {m : Verdict (Unit {0})} {m′ : Verdict Moved} {p′ w′ p″ w″ e″ j″ l″ : List ℕ} (start : ended m (net p′ w′) ≡ startOutcome (net cp cw))
       (add : ended m′ (withWork (net p″ w″) (workOf e″ j″ l″)) ≡ addOutcome (withWork (net p′ w′) (workOf e j l)) xs) where
-    left : withWork (net p″ w″) (workOf e″ j″ l″) ≡ withWork (netOf (length p) (edges xs)) (cleared (workOf e j l))
-    left = first-net first start add ∙ ap (λ (n : ℕ). withWork (netOf n (edges xs)) (cleared (workOf e j l))) (sym (t .compares .parents))
+    left : withWork (net p″ w″) (workOf e″ j″ l″) ≡ withWork (netOf (length p) (ties xs)) (cleared (workOf e j l))
+    left = first-net first start add ∙ ap (λ (n : ℕ). withWork (netOf n (ties xs)) (cleared (workOf e j l))) (sym (t .compares .parents))
 
-    grown : net p″ w″ ≡ netOf (length p) (edges xs)
+    grown : net p″ w″ ≡ netOf (length p) (ties xs)
     grown = ap (λ (g : NetWithWork). g .net) left
 
     -- the tables of both nets have one length
     pub told-lengths : (length p ≡ length p″) × (length w ≡ length w″)
     unfolding netOf
     told-lengths = (
-      sym (ap (λ (of : Net). length (of .parents)) grown ∙ forest-length (length p) (edges xs)),
-      t .compares .weights ∙ sym (t .compares .parents) ∙ sym (ap (λ (of : Net). length (of .weights)) grown ∙ weights-length (length p) (edges xs)),
+      sym (ap (λ (of : Net). length (of .parents)) grown ∙ forest-length (length p) (withoutRows (ties xs))),
+      t .compares .weights ∙ sym (t .compares .parents) ∙ sym (ap (λ (of : Net). length (of .weights)) grown ∙ weights-length (length p) (ties xs)),
     )
 
-    pub told : {r : Bool} → r ≡ sameNet (net p w) (net p″ w″) → Told (net p w) (edges xs) (workOf e j l) r (net p″ w″) (workOf e″ j″ l″)
+    pub told : {r : Bool} → r ≡ sameNet (net p w) (net p″ w″) → Told (net p w) (ties xs) (workOf e j l) r (net p″ w″) (workOf e″ j″ l″)
     told s = record { answer = s ∙ ap (sameNet (net p w)) grown; net = grown; clear = ap (λ (g : NetWithWork). g .work) left }

@@ -1,11 +1,11 @@
--- A net and edges pass the test of sameness just where the net is theirs, and else they are refused with 23.
+-- A net and ties pass the test of sameness just where the net is theirs, and else they are refused with 23.
 -- Assumes nothing.
 use mathlib.Core.Path.{_≡_, refl, sym, ap, _∙_}
 use mathlib.Core.Bool.{Bool, true, false, not}
 use mathlib.Core.List.{List}
 use lib.ListN.{length}
 use borrow.Author.Tests.{not-false}
-use Rattle.game.specs.Edge.{Edge}
+use Rattle.game.specs.Edge.{Tie}
 use Rattle.game.specs.Net.{Net, netOf}
 use Rattle.refusal.specs.Refusal.{given}
 use Rattle.refusal.proofs.First.{given-true, given-none}
@@ -13,23 +13,23 @@ use Rattle.compare.specs.Likeness.{sameNet}
 use Rattle.compare.proofs.Sameness.{same-net, net-same}
 use Rattle.compare.specs.Compare.{unlike}
 
--- 23 is not given where the edges' net is the net
-pub same-passes : (of : Net) (es : List Edge) → of ≡ netOf (length (of .parents)) es → unlike of es ≡ 0
+-- 23 is not given where the ties' net is the net
+pub same-passes : (of : Net) (ts : List Tie) → of ≡ netOf (length (of .parents)) ts → unlike of ts ≡ 0
 unfolding unlike given
-same-passes of es is = rw (net-same of (netOf (length (of .parents)) es) is) refl
+same-passes of ts is = rw (net-same of (netOf (length (of .parents)) ts) is) refl
 
 -- and only there
-pub passed-same : (of : Net) (es : List Edge) → unlike of es ≡ 0 → of ≡ netOf (length (of .parents)) es
+pub passed-same : (of : Net) (ts : List Tie) → unlike of ts ≡ 0 → of ≡ netOf (length (of .parents)) ts
 unfolding unlike
-passed-same of es z =
-    let grown : Net = netOf (length (of .parents)) es in
+passed-same of ts z =
+    let grown : Net = netOf (length (of .parents)) ts in
     same-net of grown (not-false (sameNet of grown) (given-none (not (sameNet of grown)) 22 z))
 
--- what a test that was made tells: the edges are the net's own, or they are refused
-module _ (of : Net) (es : List Edge) {same : Bool} (test : same ≡ sameNet of (netOf (length (of .parents)) es)) where
-  pub found-own : same ≡ true → of ≡ netOf (length (of .parents)) es
-  found-own e = same-net of (netOf (length (of .parents)) es) (sym test ∙ e)
+-- what a test that was made tells: the ties are the net's own, or they are refused
+module _ (of : Net) (ts : List Tie) {same : Bool} (test : same ≡ sameNet of (netOf (length (of .parents)) ts)) where
+  pub found-own : same ≡ true → of ≡ netOf (length (of .parents)) ts
+  found-own e = same-net of (netOf (length (of .parents)) ts) (sym test ∙ e)
 
-  pub found-other : same ≡ false → unlike of es ≡ 23
+  pub found-other : same ≡ false → unlike of ts ≡ 23
   unfolding unlike
-  found-other e = given-true (not (sameNet of (netOf (length (of .parents)) es))) 23 (ap not (sym test ∙ e))
+  found-other e = given-true (not (sameNet of (netOf (length (of .parents)) ts))) 23 (ap not (sym test ∙ e))

@@ -1,14 +1,12 @@
-// A net compared with edges that are said to be its own: what the list and the tables lent for it are refused for, the net of the edges
-// grown into the comparison tables, and whether that is the net.
+// A net compared with ties that are said to be its own: what the tables lent for it are refused for, the net of the ties grown into the
+// comparison tables, and whether that is the net.
 mod likeness;
 mod own;
 
-pub use likeness::list_refusal;
 use net::Net;
 pub use own::is_own;
 ghost use mathlib.Core.Path.{_≡_};
 ghost use mathlib.Core.Bool.{_||_};
-ghost use Rattle.game.specs.Edge.{edges as edgesOf};
 ghost use Rattle.game.specs.Net.{net};
 ghost use Rattle.refusal.specs.Refusal.{wrongLength};
 ghost use Rattle.growth.specs.Work.{workOf};
@@ -30,7 +28,7 @@ pub fn wrong_compared(
     (compared_parents != n) | (compared_weights != n) | growth::bad_work(n, both, ends, jump, lower)
 }
 
-// Grows the net of a list of edges, whatever the tables held. The edges stay filed.
+// Grows the net of a list of ties, whatever the tables held. The edges stay filed.
 fn grow_net(
     edges: &[u32],
     parents: &mut [u32],
@@ -45,11 +43,13 @@ fn grow_net(
 {
     table::fill(parents, Net::ABSENT);
     table::fill(weights, 0);
-    bucket::file_list(edges, ends, lower);
-    growth::grow_kept(parents, weights, ends, jump, lower);
+    table::fill(ends, 0);
+    bucket::sweep(edges, ends, weights);
+    bucket::file_counted(edges, ends, lower);
+    growth::grow_kept(parents, ends, jump, lower);
 }
 
-// Grows the net of a list of edges into the comparison tables, and says whether it is the net. A list that is the net's own stays filed
+// Grows the net of a list of ties into the comparison tables, and says whether it is the net. A list that is the net's own stays filed
 // for the next reader; else the work tables end as zeros.
 pub fn compare(
     parents: &[u32],
@@ -63,7 +63,7 @@ pub fn compare(
 ) -> bool
     requires { ⌜ Comparable (net (now parents) (now weights)) (now edges) (net (now «compared_parents») (now «compared_weights»))
         (workOf (now ends) (now jump) (now lower)) ⌝ }
-    ensures { λ r. ⌜ Compared (net (now (parents .entry)) (now (weights .entry))) (edgesOf (now (edges .entry))) (workOf (now (ends .entry)) (now (jump .entry)) (now (lower .entry)))
+    ensures { λ r. ⌜ Compared (net (now (parents .entry)) (now (weights .entry))) (now (edges .entry)) (workOf (now (ends .entry)) (now (jump .entry)) (now (lower .entry)))
         r (net (now («compared_parents» .exit)) (now («compared_weights» .exit))) (workOf (now (ends .exit)) (now (jump .exit)) (now (lower .exit))) ⌝ }
 {
     grow_net(edges, compared_parents, compared_weights, ends, jump, lower);

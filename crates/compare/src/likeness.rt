@@ -1,22 +1,8 @@
-// Edges that are said to be a net's own, by reading alone: what their list is refused for by itself, and whether two nets are the same.
+// Whether two nets are the same.
 ghost use mathlib.Core.Path.{_≡_};
 ghost use lib.ListN.{length};
 ghost use Rattle.game.specs.Net.{net};
-ghost use Rattle.compare.specs.Likeness.{sameTable, sameNet, listRefusal};
-
-// Refusal 4, 5 or 20 of a list of edges on n vertices, or 0.
-pub fn list_refusal(n: usize, edges: &[u32]) -> u32
-    ensures { λ r. ⌜ r ≡ listRefusal n (now (edges .entry)) ⌝ }
-{
-    let fault = refusal::list_fault(n, edges);
-    if fault != 0 {
-        return fault;
-    }
-    if refusal::MAX_EDGES < edge::count(edges) {
-        return 20;
-    }
-    0
-}
+ghost use Rattle.compare.specs.Likeness.{sameTable, sameNet};
 
 // Whether two tables of one length have the same entries.
 fn same_table(one: &[u32], other: &[u32]) -> bool

@@ -10,22 +10,21 @@ use native.Mathlib.Omega.{arith}
 use lib.ListN.{length, getD, set, take, drop, length-set}
 use lib.Seq.{take-suc-set, take-all}
 use Rattle.game.specs.Edge.{Edge, _─_, lower}
+use Rattle.game.specs.Graph.{Proper}
+use Rattle.game.proofs.Proper.{proper-head, proper-tail}
 use Rattle.bucket.specs.Ends.{endOf}
 use Rattle.edge.proofs.Reading.{AtEdge, edge-start, edge-next, edge-inside, edge-here, edge-end}
-use Rattle.refusal.specs.Refusal.{fault, firstFault}
-use Rattle.refusal.proofs.First.{first-none, first-last}
-use Rattle.refusal.proofs.Fault.{faultless}
 use Rattle.block_count.specs.BlockCount.{edgeBlock, edgeBlocks}
 
 -- the first i of m edges have their blocks
 pub record FillTurn (es : List Edge) (block out : List ℕ) (m i : ℕ) : Type 0 where
   pub place : AtEdge es m i
   pub long : length out ≡ length es
-  pub faultless : firstFault (length block) (drop i es) ≡ 0
+  pub proper : Proper (length block) (drop i es)
   pub filled : take i out ++ edgeBlocks block (drop i es) ≡ edgeBlocks block es
 
-pub fill-start : {es : List Edge} {block out : List ℕ} {m : ℕ} → m ≡ length es → firstFault (length block) es ≡ 0 → length out ≡ length es → FillTurn es block out m 0
-fill-start k f e = record { place = edge-start k; long = e; faultless = f; filled = refl }
+pub fill-start : {es : List Edge} {block out : List ℕ} {m : ℕ} → m ≡ length es → Proper (length block) es → length out ≡ length es → FillTurn es block out m 0
+fill-start k f e = record { place = edge-start k; long = e; proper = f; filled = refl }
 
 module _ {es : List Edge} {block out : List ℕ} {m i : ℕ} (t : FillTurn es block out m i) where
   module _ (h : i < m) {a b : ℕ} (r : (a ─ b) ≡ getD es i (0 ─ 0)) where
@@ -36,23 +35,20 @@ module _ {es : List Edge} {block out : List ℕ} {m i : ℕ} (t : FillTurn es bl
     unfolding rest
     split = edge-here (t .place) h r
 
-    sound : (fault (length block) (a ─ b) ≡ 0) × (firstFault (length block) rest ≡ 0)
-    unfolding firstFault
-    sound =
-        let f = first-none (fault (length block) (a ─ b)) (firstFault (length block) rest ∷ []) (rw split at (t .faultless)) in
-        (f .0, sym (first-last (firstFault (length block) rest)) ∙ f .1)
+    left : Proper (length block) ((a ─ b) ∷ rest)
+    left = rw split at (t .proper)
 
     -- the edge's lower end is a vertex
     pub fill-lower : endOf false (a ─ b) < length block
     unfolding endOf lower
-    fill-lower = let k = faultless (length block) a b (sound .0) in omega (arith, k .0, min-le-left a b)
+    fill-lower = omega (arith, proper-head left .0, min-le-left a b)
 
     pub fill-step : {v : ℕ} {out′ : List ℕ} → v ≡ getD block (endOf false (a ─ b)) 0 → out′ ≡ set out i v → FillTurn es block out′ m (i + 1)
     unfolding edgeBlocks edgeBlock endOf rest
     fill-step {v} {out′} e q = record {
       place = edge-next (t .place) h;
       long = ap length q ∙ length-set out i v ∙ t .long;
-      faultless = sound .1;
+      proper = proper-tail left;
       filled =
           ap (λ (l : List ℕ). l ++ edgeBlocks block rest) (ap (take (i + 1)) q ∙ one-more)
           ∙ append-assoc (take i out) (v ∷ []) (edgeBlocks block rest)

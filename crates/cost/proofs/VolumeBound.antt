@@ -21,7 +21,7 @@ use Rattle.game.specs.Table.{tabulate, sum, member, count, some-entry}
 use Rattle.game.specs.Edge.{Edge, lower}
 use Rattle.game.specs.Game.{absent, forest}
 use Rattle.game.specs.Tree.{ancestors, under}
-use Rattle.game.specs.Net.{Net, netOf, enters, reach}
+use Rattle.game.specs.Net.{Net, enters, reach}
 use Rattle.game.specs.Graph.{Linked, Proper}
 use Rattle.game.proofs.Bools.{or-left, or-right, both-and, test-cases}
 use Rattle.game.proofs.Tables.{member-in, in-member, tabulate-entry}
@@ -198,18 +198,14 @@ module _ {n : ℕ} {es : List Edge} (small : n ≤ absent) (proper : Proper n es
       bounds : ℕ → ℕ
       bounds t = cond (isCut parents tops t) (reach parents es t) 0
 
-net-parents : (n : ℕ) (es : List Edge) → netOf n es .parents ≡ forest n es
-unfolding netOf
-net-parents n es = refl
-
 volume-table : {n : ℕ} {es : List Edge} (p : List ℕ) → n ≤ absent → Proper n es → p ≡ forest n es → (cuts : ℕ → Bool) (packed : ℕ → ℕ) (k : ℕ)
     → volume (length p) k (tabulate (length p) (λ x. packed (top p cuts x))) es ≤ bound p es (tabulate (length p) (top p cuts))
 volume-table {n} {es} p small proper e cuts packed k = rw (e, forest-length n es) (volume-any small proper cuts packed k)
 
--- so it is for every limit and number of blocks by which the net of an edge list is divided
-pub volume-bound : {n : ℕ} {es : List Edge} (net : Net) → n ≤ maxVertices → Proper n es → net ≡ netOf n es
+-- so it is for every limit and number of blocks by which a net with the forest of the edges is divided
+pub volume-bound : {n : ℕ} {es : List Edge} (net : Net) → n ≤ maxVertices → Proper n es → net .parents ≡ forest n es
     → (B k : ℕ) → volumeOf net es B k ≤ boundOf net es B k
 unfolding volumeOf boundOf
 volume-bound {n} {es} net few proper e B k =
     rw (divided-top net B k, divided-block net B k)
-    (volume-table (net .parents) (omega arith) proper (ap (λ (of : Net). of .parents) e ∙ net-parents n es) (cuts net B k) (packed net B k) k)
+    (volume-table (net .parents) (omega arith) proper e (cuts net B k) (packed net B k) k)

@@ -7,7 +7,7 @@ use table::wide;
 ghost use mathlib.Core.Path.{_≡_};
 ghost use lib.ListN.{length};
 ghost use Rattle.game.specs.Edge.{edges as edgesOf};
-ghost use Rattle.refusal.specs.Refusal.{firstFault};
+ghost use Rattle.game.specs.Graph.{Proper};
 ghost use Rattle.block_count.specs.BlockCount.{edgeBlocks};
 ghost use Rattle.cost.specs.Steps.{ReportTables, summed};
 
@@ -47,7 +47,7 @@ pub fn sum_up(
 
 // Writes the block of each edge: that of its lower end.
 pub fn write_edge_blocks(edges: &[u32], block: &[u32], edge_blocks: &mut [u32])
-    requires { ⌜ firstFault (length (now block)) (edgesOf (now edges)) ≡ 0 ⌝ }
+    requires { ⌜ Proper (length (now block)) (edgesOf (now edges)) ⌝ }
     requires { ⌜ length (now «edge_blocks») ≡ length (edgesOf (now edges)) ⌝ }
     ensures { λ _. ⌜ now («edge_blocks» .exit) ≡ edgeBlocks (now (block .entry)) (edgesOf (now (edges .entry))) ⌝ }
 {

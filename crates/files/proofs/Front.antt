@@ -24,8 +24,8 @@ bySize : (a b c : ℕ) → ℕ
 bySize a b c =
     first
     (given (eqb (a / 4) 0) 1
-    ∷ given (ltb vertexCapacity (a / 4) || ltb edgeCapacity (b / 8)) 2
-    ∷ given (not (eqb (a % 4) 0) || not (eqb (b % 8) 0) || not (eqb c 8)) 6
+    ∷ given (ltb vertexCapacity (a / 4) || ltb edgeCapacity (b / 12)) 2
+    ∷ given (not (eqb (a % 4) 0) || not (eqb (b % 12) 0) || not (eqb c 8)) 6
     ∷ [])
 
 -- a length, and that of what is left of it by a cut at k: the same, or both are at least k
@@ -44,8 +44,8 @@ many-edges a b c b′ c′ h h′ =
     (λ (z : a / 4 ≡ 0). stop 0 _ (eq-eqb (a / 4) 0 z) ∙ sym (stop 0 _ (eq-eqb (a / 4) 0 z)))
     (λ (d : a / 4 ≡ 0 → ⊥). pass 1 _ (ne-eqb (a / 4) 0 d) ∙ stop 1 _ (many b h) ∙ sym (pass 1 _ (ne-eqb (a / 4) 0 d) ∙ stop 1 _ (many b′ h′)))
   where
-    many : (b : ℕ) → tiesFront ≤ b → (ltb vertexCapacity (a / 4) || ltb edgeCapacity (b / 8)) ≡ true
-    many b h = or-right (ltb vertexCapacity (a / 4)) _ (lt-ltb edgeCapacity (b / 8) (omega arith))
+    many : (b : ℕ) → tiesFront ≤ b → (ltb vertexCapacity (a / 4) || ltb edgeCapacity (b / 12)) ≡ true
+    many b h = or-right (ltb vertexCapacity (a / 4)) _ (lt-ltb edgeCapacity (b / 12) (omega arith))
 
 -- more than a record
 long-want : (a b c c′ : ℕ) → wantFront ≤ c → wantFront ≤ c′ → bySize a b c ≡ bySize a b c′
@@ -54,8 +54,8 @@ long-want a b c c′ h h′ =
     ap
     (λ (t : Bool). first
     (given (eqb (a / 4) 0) 1
-    ∷ given (ltb vertexCapacity (a / 4) || ltb edgeCapacity (b / 8)) 2
-    ∷ given (not (eqb (a % 4) 0) || not (eqb (b % 8) 0) || not t) 6
+    ∷ given (ltb vertexCapacity (a / 4) || ltb edgeCapacity (b / 12)) 2
+    ∷ given (not (eqb (a % 4) 0) || not (eqb (b % 12) 0) || not t) 6
     ∷ []))
     (ne-eqb c 8 (omega arith) ∙ sym (ne-eqb c′ 8 (omega arith)))
 

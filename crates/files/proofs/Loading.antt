@@ -10,7 +10,7 @@ use lib.Dec.{eqb}
 use lib.ListN.{length, take}
 use lib.Seq.{take-at, length-take-le}
 use borrow.Author.Tests.{eqb-true, eqb-false, ltb-false, not-false}
-use Rattle.game.specs.Edge.{edges}
+use Rattle.game.specs.Edge.{ties}
 use Rattle.game.proofs.Bools.{or-neither}
 use Rattle.refusal.specs.Refusal.{given, first, firstFault}
 use Rattle.refusal.proofs.First.{first-none, first-pass, first-end, given-none, length-right}
@@ -19,15 +19,15 @@ use Rattle.refusal.specs.DivisionLimits.{badLimits}
 use Rattle.words.proofs.Bytes.{words-length}
 use Rattle.files.specs.Files.{Files, vertexCount, edgeCount, order, edgeList, limit, blocks, vertexCapacity, edgeCapacity}
 use Rattle.files.specs.Refused.{tooMany, partRecord, notRecords, fileRefusal}
-use Rattle.files.specs.Steps.{sizeRefusal, contentRefusal, Sized, Decided, FilesLoaded, endCapacity}
+use Rattle.files.specs.Steps.{sizeRefusal, contentRefusal, Sized, Decided, FilesLoaded, numberCapacity}
 
 -- files whose lengths are not refused
 pub record Sizes (f : Files) : Type 0 where
   pub some : 0 < length (f .marks) / 4
   pub vertices : length (f .marks) / 4 ≤ vertexCapacity
-  pub edges : length (f .ties) / 8 ≤ edgeCapacity
+  pub edges : length (f .ties) / 12 ≤ edgeCapacity
   pub marks : length (f .marks) % 4 ≡ 0
-  pub ties : length (f .ties) % 8 ≡ 0
+  pub ties : length (f .ties) % 12 ≡ 0
   pub want : length (f .want) ≡ 8
 
 whole : (size : ℕ) (bytes : List ℕ) → partRecord size bytes ≡ false → length bytes % size ≡ 0
@@ -48,7 +48,7 @@ sizes f z =
       vertices = ltb-false vertexCapacity _ (many .0);
       edges = ltb-false edgeCapacity _ (many .1);
       marks = whole 4 (f .marks) (files .0);
-      ties = whole 8 (f .ties) (files .1);
+      ties = whole 12 (f .ties) (files .1);
       want = length-right _ _ (parts .1);
     }
 
@@ -79,7 +79,7 @@ module _ (f : Files) where
   early = given (eqb (vertexCount f) 0) 1 ∷ given (tooMany f) 2 ∷ given (notRecords f) 6 ∷ []
 
   late : ℕ → ℕ
-  late n = first (given (badOrder (order f)) 3 ∷ given (badLimits (limit f) (blocks f)) 8 ∷ firstFault n (edges (edgeList f)) ∷ [])
+  late n = first (given (badOrder (order f)) 3 ∷ given (badLimits (limit f) (blocks f)) 8 ∷ firstFault n (ties (edgeList f)) ∷ [])
 
   -- refused for a length
   pub size-stops : {code : ℕ} → code ≡ sizeRefusal f → (code ≡ 0 → ⊥) → code ≡ fileRefusal f
@@ -98,12 +98,12 @@ module _ (f : Files) where
   pub order-room : (room : ℕ) → sizeRefusal f ≡ 0 → room ≡ vertexCapacity → length (f .marks) / 4 ≤ room
   order-room room z e = omega (arith, sizes f z .vertices)
 
-  pub edge-room : (room : ℕ) → sizeRefusal f ≡ 0 → room ≡ endCapacity → length (f .ties) / 4 ≤ room
+  pub edge-room : (room : ℕ) → sizeRefusal f ≡ 0 → room ≡ numberCapacity → length (f .ties) / 4 ≤ room
   edge-room room z e = omega (arith, sizes f z .edges, sizes f z .ties)
 
-  pub sized : (o xs : List ℕ) → sizeRefusal f ≡ 0 → length o ≡ vertexCapacity → length xs ≡ endCapacity
+  pub sized : (o xs : List ℕ) → sizeRefusal f ≡ 0 → length o ≡ vertexCapacity → length xs ≡ numberCapacity
       → Sized f (take (length (f .marks) / 4) o) (take (length (f .ties) / 4) xs)
-  sized o xs z lo lx = record { passed = z; vertices = length-take-le _ o (order-room (length o) z lo); ends = length-take-le _ xs (edge-room (length xs) z lx) }
+  sized o xs z lo lx = record { passed = z; vertices = length-take-le _ o (order-room (length o) z lo); numbers = length-take-le _ xs (edge-room (length xs) z lx) }
 
   -- the two ways in which loading ends
   pub loaded-not : {o xs : List ℕ} {code : ℕ} → code ≡ sizeRefusal f → (code ≡ 0 → ⊥) → FilesLoaded f o xs code

@@ -1,9 +1,9 @@
 -- The files of a run, as numbers.
 --
--- Document 01: "`blocks` reads `marks.ord`, `ties.rec` and `want.rec` (one record: B, k)." "Order file: 4 bytes a mark. Tie file: two
--- mark numbers." "A file that cannot be opened counts as empty; n is the number of whole records in `marks.ord`." A mark is a vertex
--- here, a tie an edge, B the limit and k the number of blocks. Part of a record at the end of a file counts for nothing (its run is
--- refused).
+-- Document 01: "`blocks` reads `marks.ord`, `ties.rec` and `want.rec` (one record: B, k)." "Order file: 4 bytes a mark." "A file that
+-- cannot be opened counts as empty; n is the number of whole records in `marks.ord`." Document 02, Paper 6: "the tie file record has 12
+-- bytes". A mark is a vertex here, B the limit and k the number of blocks. Part of a record at the end of a file counts for nothing (its
+-- run is refused).
 -- Assumes nothing.
 use mathlib.Core.List.{List}
 use Prim.Native.Nat.{ℕ, _+_, _*_, _/_}
@@ -24,9 +24,9 @@ unfoldable pub vertexCount : Files → ℕ
 vertexCount f = length (f .marks) / 4
 
 unfoldable pub edgeCount : Files → ℕ
-edgeCount f = length (f .ties) / 8
+edgeCount f = length (f .ties) / 12
 
--- the order, and the flat list of edges by vertex number
+-- the order, and the flat list of ties by vertex number
 unfoldable pub order : Files → List ℕ
 order f = words (f .marks)
 
@@ -53,7 +53,7 @@ abbrev pub marksFront : ℕ
 marksFront = 4 * vertexCapacity + 4
 
 abbrev pub tiesFront : ℕ
-tiesFront = 8 * edgeCapacity + 8
+tiesFront = 12 * edgeCapacity + 12
 
 abbrev pub wantFront : ℕ
 wantFront = 9

@@ -5,30 +5,30 @@ use mathlib.Core.List.{List, [], _∷_}
 use Prim.Native.Nat.{ℕ, _/_, _*_}
 use lib.Dec.{eqb}
 use lib.ListN.{length, take}
-use Rattle.game.specs.Edge.{edges}
+use Rattle.game.specs.Edge.{ties}
 use Rattle.refusal.specs.Refusal.{given, first, firstFault}
 use Rattle.order.specs.Order.{badOrder}
 use Rattle.refusal.specs.DivisionLimits.{badLimits}
 use Rattle.files.specs.Files.{Files, vertexCount, order, edgeList, limit, blocks, edgeCapacity}
 use Rattle.files.specs.Refused.{tooMany, notRecords, fileRefusal}
 
--- the ends of the edges that the tables hold
-abbrev pub endCapacity : ℕ
-endCapacity = 2 * edgeCapacity
+-- the numbers of the ties that the tables hold
+abbrev pub numberCapacity : ℕ
+numberCapacity = 3 * edgeCapacity
 
 -- the refusals of the files' lengths
 unfoldable pub sizeRefusal : Files → ℕ
 sizeRefusal f = first (given (eqb (vertexCount f) 0) 1 ∷ given (tooMany f) 2 ∷ given (notRecords f) 6 ∷ [])
 
--- the refusals of what they say: an order, a flat list of edges by vertex number, and the limits
+-- the refusals of what they say: an order, a flat list of ties by vertex number, and the limits
 unfoldable pub contentRefusal : (order edgeList : List ℕ) (B k : ℕ) → ℕ
-contentRefusal order xs B k = first (given (badOrder order) 3 ∷ given (badLimits B k) 8 ∷ firstFault (length order) (edges xs) ∷ [])
+contentRefusal order xs B k = first (given (badOrder order) 3 ∷ given (badLimits B k) 8 ∷ firstFault (length order) (ties xs) ∷ [])
 
 -- files whose lengths are not refused, and tables as long as what they say
 pub record Sized (f : Files) (o xs : List ℕ) : Type 0 where
   pub passed : sizeRefusal f ≡ 0
   pub vertices : length o ≡ length (f .marks) / 4
-  pub ends : length xs ≡ length (f .ties) / 4
+  pub numbers : length xs ≡ length (f .ties) / 4
 
 -- what taking them leaves: the order and the edges, and the refusal of what they say
 pub record Decided (f : Files) (o xs : List ℕ) (code : ℕ) : Type 0 where

@@ -7,41 +7,43 @@ ghost use Rattle.refusal.specs.Refusal.{first, given};
 ghost use Rattle.refusal.specs.DivisionLimits.{badLimits};
 ghost use Rattle.words.specs.Word.{words};
 ghost use Rattle.files.specs.Files.{files as filesOf, vertexCapacity};
-ghost use Rattle.files.specs.Steps.{sizeRefusal, contentRefusal, Sized, FilesLoaded, Decided, endCapacity};
+ghost use Rattle.files.specs.Steps.{sizeRefusal, contentRefusal, Sized, FilesLoaded, Decided, numberCapacity};
 
 // The tables of a run hold 1,000 vertices and 4,000 edges.
 pub const VERTICES: usize = 1_000;
 
 pub const EDGES: usize = 4_000;
 
-// The ends of the edges, two to an edge.
-pub const EDGE_ENDS: usize = 2 * EDGES;
+// The numbers of the edges: two ends and the rows of each.
+pub const EDGE_NUMBERS: usize = 3 * EDGES;
 
-// The size of a number, and that of a record of two.
+// The size of a number, and that of a record of `ties.rec` and of `want.rec`.
 pub const WORD: usize = 4;
 
-const RECORD: usize = 8;
+const TIE: usize = 12;
+
+const LIMITS: usize = 8;
 
 // How many bytes of each file a run has to see: those of its front, as the definition `front` has it.
 pub const MARKS: usize = WORD * VERTICES + WORD;
 
-pub const TIES: usize = RECORD * EDGES + RECORD;
+pub const TIES: usize = TIE * EDGES + TIE;
 
-pub const WANT: usize = RECORD + 1;
+pub const WANT: usize = LIMITS + 1;
 
 // Refusal 1, 2 or 6 of the files' lengths, or 0.
 fn size_refusal(marks: &[u8], ties: &[u8], want: &[u8]) -> u32
     ensures { λ r. ⌜ r ≡ sizeRefusal (filesOf (now (marks .entry)) (now (ties .entry)) (now (want .entry))) ⌝ }
 {
     let n = marks.len() / WORD;
-    let m = ties.len() / RECORD;
+    let m = ties.len() / TIE;
     if n == 0 {
         return 1;
     }
     if (VERTICES < n) | (EDGES < m) {
         return 2;
     }
-    if (marks.len() % WORD != 0) | (ties.len() % RECORD != 0) | (want.len() != RECORD) {
+    if (marks.len() % WORD != 0) | (ties.len() % TIE != 0) | (want.len() != LIMITS) {
         return 6;
     }
     0
@@ -76,7 +78,7 @@ fn limit_refusal(limit: u32, blocks: u32) -> u32
     0
 }
 
-// Refusal 3, 8, 4 or 5 of what the files say, or 0.
+// Refusal 3, 8, 4, 5 or 32 of what the files say, or 0.
 fn content_refusal(order: &[u32], edges: &[u32], limit: u32, blocks: u32) -> u32
     requires { ⌜ length (now order) ≤ vertexCapacity ⌝ }
     ensures { λ r. ⌜ r ≡ contentRefusal (now (order .entry)) (now (edges .entry)) limit blocks ⌝ }
@@ -107,7 +109,7 @@ fn take_files(marks: &[u8], ties: &[u8], want: &[u8], order: &mut [u32], edges: 
 // The number for which a run is refused before its net is made, or 0. Then the tables, lent at their full length, begin with the order
 // and the edges.
 pub fn load(marks: &[u8], ties: &[u8], want: &[u8], order: &mut [u32], edges: &mut [u32]) -> u32
-    requires { ⌜ (length (now order) ≡ vertexCapacity) × (length (now edges) ≡ endCapacity) ⌝ }
+    requires { ⌜ (length (now order) ≡ vertexCapacity) × (length (now edges) ≡ numberCapacity) ⌝ }
     ensures { λ r. ⌜ FilesLoaded (filesOf (now (marks .entry)) (now (ties .entry)) (now (want .entry))) (now (order .exit)) (now (edges .exit)) r ⌝ }
 {
     let code = size_refusal(marks, ties, want);
@@ -115,6 +117,6 @@ pub fn load(marks: &[u8], ties: &[u8], want: &[u8], order: &mut [u32], edges: &m
         return code;
     }
     let n = marks.len() / WORD;
-    let ends = ties.len() / WORD;
-    take_files(marks, ties, want, &mut order[..n], &mut edges[..ends])
+    let numbers = ties.len() / WORD;
+    take_files(marks, ties, want, &mut order[..n], &mut edges[..numbers])
 }

@@ -6,7 +6,7 @@ use mathlib.Core.List.{List, _++_}
 use Prim.Native.Nat.{ℕ}
 use native.Mathlib.Omega.{arith}
 use lib.ListN.{length}
-use Rattle.game.specs.Edge.{Edge, edges}
+use Rattle.game.specs.Edge.{Edge, withoutRows, ties}
 use Rattle.game.specs.Game.{forest}
 use Rattle.game.specs.Tree.{links}
 use Rattle.game.specs.Net.{Net}
@@ -38,7 +38,7 @@ module _ {m : Moved} where
   add-followed g xs a =
       let z = accepted-none (addRefusal g xs) _ a in
       subst₂ (λ (k : Moved) (t : NetWithWork). Followed k (g .net .parents) (t .net .parents)) (accepted-values (addRefusal g xs) _ a) (sym (unless-accepted (addRefusal g xs) g _ z))
-      (forest-followed (addable g xs z .net) (edges xs))
+      (forest-followed (addable g xs z .net) (withoutRows (ties xs)))
 
   pub join-followed : (g : NetWithWork) (other : Net) → joinOutcome g other .verdict ≡ accepted m → Followed m (g .net .parents) (joinOutcome g other .tables .net .parents)
   unfolding joinOutcome decided moved joined

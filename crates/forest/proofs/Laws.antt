@@ -1,4 +1,4 @@
--- The law of joined trees, for nets: adding edges to the net of a list gives the net of the longer list, and so does joining the nets of
+-- The law of joined trees, for nets: adding ties to the net of a list gives the net of the longer list, and so does joining the nets of
 -- two lists. With `forest-links` (game/proofs/Forest), that a sound table is the forest of its own links, and `net-order`
 -- (game/proofs/Order), these carry every history of calls.
 -- Assumes nothing.
@@ -8,42 +8,45 @@ use Prim.Native.Nat.{ℕ, _+_, _≤_, _<_}
 use native.Mathlib.Omega.{arith}
 use lib.ListN.{length}
 use lib.Seq.{ext-getD}
-use Rattle.game.specs.Edge.{Edge}
+use Rattle.game.specs.Edge.{Tie, withoutRows}
 use Rattle.game.specs.Game.{absent, forest}
 use Rattle.game.specs.Tree.{links}
 use Rattle.game.specs.Net.{net, weights, netOf}
 use Rattle.game.proofs.Forest.{forest-length, join-law-left, join-law}
 use Rattle.game.specs.Graph.{Proper}
+use Rattle.game.proofs.Edges.{rowless-append}
 use Rattle.game.proofs.Weights.{weight-append, weights-length, weights-entry}
-use Rattle.sorting.proofs.Tallied.{zip-length, zip-entry}
+use Rattle.table.proofs.Zipped.{zip-length, zip-entry}
 use Rattle.add.specs.Add.{grown}
 use Rattle.join.specs.Join.{joined}
 
 -- weights add up
-pub weights-append : (n : ℕ) (es fs : List Edge) → zipWith _+_ (weights n es) (weights n fs) ≡ weights n (es ++ fs)
-weights-append n es fs =
-    ext-getD 0 (zipWith _+_ (weights n es) (weights n fs)) (weights n (es ++ fs)) (long ∙ sym (weights-length n (es ++ fs)))
+pub weights-append : (n : ℕ) (ts us : List Tie) → zipWith _+_ (weights n ts) (weights n us) ≡ weights n (ts ++ us)
+weights-append n ts us =
+    ext-getD 0 (zipWith _+_ (weights n ts) (weights n us)) (weights n (ts ++ us)) (long ∙ sym (weights-length n (ts ++ us)))
     (λ i h. let l : i < n = omega (arith, long) in
-    zip-entry _+_ (weights n es) (weights n fs) i 0 0 same
-    ∙ ap₂ _+_ (weights-entry n es l) (weights-entry n fs l)
-    ∙ sym (weight-append es fs i)
-    ∙ sym (weights-entry n (es ++ fs) l))
+    zip-entry _+_ (weights n ts) (weights n us) i 0 0 same
+    ∙ ap₂ _+_ (weights-entry n ts l) (weights-entry n us l)
+    ∙ sym (weight-append ts us i)
+    ∙ sym (weights-entry n (ts ++ us) l))
   where
-    same : length (weights n es) ≡ length (weights n fs)
-    same = weights-length n es ∙ sym (weights-length n fs)
+    same : length (weights n ts) ≡ length (weights n us)
+    same = weights-length n ts ∙ sym (weights-length n us)
 
-    long : length (zipWith _+_ (weights n es) (weights n fs)) ≡ n
-    long = zip-length _+_ (weights n es) (weights n fs) same ∙ weights-length n es
+    long : length (zipWith _+_ (weights n ts) (weights n us)) ≡ n
+    long = zip-length _+_ (weights n ts) (weights n us) same ∙ weights-length n ts
 
-module _ {n : ℕ} {es : List Edge} (fs : List Edge) (small : n ≤ absent) (proper : Proper n es) where
-  pub grown-net : grown (netOf n es) fs ≡ netOf n (es ++ fs)
+module _ {n : ℕ} (ts us : List Tie) (small : n ≤ absent) (proper : Proper n (withoutRows ts)) where
+  pub grown-net : grown (netOf n ts) us ≡ netOf n (ts ++ us)
   unfolding grown netOf
   grown-net = ap₂ net
-      (ap (λ (m : ℕ). forest m (links (forest n es) ++ fs)) (forest-length n es) ∙ sym (join-law-left fs small proper))
-      (ap (λ (m : ℕ). zipWith _+_ (weights n es) (weights m fs)) (forest-length n es) ∙ weights-append n es fs)
+      (ap (λ (m : ℕ). forest m (links (forest n (withoutRows ts)) ++ withoutRows us)) (forest-length n (withoutRows ts)) ∙ sym (join-law-left (withoutRows us) small proper)
+      ∙ ap (forest n) (sym (rowless-append ts us)))
+      (ap (λ (m : ℕ). zipWith _+_ (weights n ts) (weights m us)) (forest-length n (withoutRows ts)) ∙ weights-append n ts us)
 
-  pub joined-net : Proper n fs → joined (netOf n es) (netOf n fs) ≡ netOf n (es ++ fs)
+  pub joined-net : Proper n (withoutRows us) → joined (netOf n ts) (netOf n us) ≡ netOf n (ts ++ us)
   unfolding joined netOf
   joined-net other = ap₂ net
-      (ap (λ (m : ℕ). forest m (links (forest n es) ++ links (forest n fs))) (forest-length n es) ∙ sym (join-law small proper other))
-      (weights-append n es fs)
+      (ap (λ (m : ℕ). forest m (links (forest n (withoutRows ts)) ++ links (forest n (withoutRows us)))) (forest-length n (withoutRows ts)) ∙ sym (join-law small proper other)
+      ∙ ap (forest n) (sym (rowless-append ts us)))
+      (weights-append n ts us)

@@ -1,5 +1,5 @@
--- What is not named by a refusal is accepted: the calls' tests all pass over tables that fit, a net without damage, edges without a
--- fault, and a total within the limit.
+-- What is not named by a refusal is accepted: the calls' tests all pass over tables that fit, a net without damage, ties without a
+-- fault, not too many, and a total within the limit.
 -- Assumes nothing.
 use mathlib.Core.Path.{_≡_, _∙_}
 use mathlib.Core.Bool.{false}
@@ -8,12 +8,13 @@ use Prim.Native.Nat.{ℕ, _+_, _≤_, _<_}
 use native.Mathlib.Omega.{arith}
 use lib.ListN.{length}
 use borrow.Author.Tests.{ne-eqb, le-ltb}
-use Rattle.game.specs.Edge.{edges}
+use Rattle.game.specs.Edge.{ties}
 use Rattle.game.specs.Net.{Net, total, charges}
 use Rattle.game.proofs.Sound.{true-sound}
 use Rattle.refusal.specs.Limits.{maxVertices, maxTotal}
 use Rattle.refusal.specs.Refusal.{badCount}
 use Rattle.refusal.proofs.First.{pass, first-pass, first-end, right-length}
+use Rattle.refusal.proofs.ListRefusal.{list-passes}
 use Rattle.net.specs.Damage.{damaged, damagedBy}
 use Rattle.growth.specs.Work.{Work, NetWithWork, badWork}
 use Rattle.start.specs.Start.{startRefusal}
@@ -46,11 +47,11 @@ unfolding addRefusal
 add-passes {g} {xs} a =
     pass 1 _ (count-right _ (a .net .some) (a .net .few))
     ∙ pass 2 _ (right-length _ _ (a .net .long))
-    ∙ pass 2 _ (a .even)
+    ∙ pass 2 _ (a .all)
     ∙ pass 2 _ (work-right (a .work))
     ∙ pass 30 _ (whole-undamaged (a .net))
-    ∙ first-pass _ _ (a .faultless)
-    ∙ pass 20 _ (le-ltb maxTotal (total (g .net) + charges (edges xs)) (a .light))
+    ∙ first-pass _ _ (list-passes _ xs (a .faultless) (a .few))
+    ∙ pass 20 _ (le-ltb maxTotal (total (g .net) + charges (ties xs)) (a .light))
     ∙ first-end
 
 pub join-passes : {g : NetWithWork} {other : Net} → Joinable g other → joinRefusal g other ≡ 0

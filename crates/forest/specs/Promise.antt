@@ -1,6 +1,7 @@
 -- What this crate promises of every net that its calls leave, and all that dividing sees of it. Document 01: "The cutting rests only on
 -- the parent and load of each mark"; its number 30 is "the table of a net that the call works from .. breaks the rule of 7, or its loads
--- sum above 16,000,000". The promise is on parents and weights: a net that has it is refused with 30 by no call.
+-- sum above 16,000,000", which Paper 6 of document 02 makes 96,000,000. The promise is on parents and weights: a net that has it is refused
+-- with 30 by no call.
 -- Assumes nothing.
 use mathlib.Core.Path.{_≡_}
 use mathlib.Core.Bool.{true}

@@ -1,22 +1,21 @@
--- Weights are what edges charge to their owners: they add up when edge lists are laid together, and in a proper graph each edge is
--- charged once. In document 01 each edge charges 1 to its lower end, so weights are also counts of lower ends (`weight-count`,
--- `charges-count`): what goes by the number of edges says so by citing these.
+-- Weights are the rows of ties, charged to the owners of their edges: they add up when lists are laid together, and in a proper graph
+-- each tie is charged once.
 -- Assumes nothing.
 use mathlib.Core.Path.{_≡_, refl, sym, ap, ap₂, _∙_}
 use mathlib.Core.Logic.{_≢_, by-cases}
 use mathlib.Core.Bool.{Bool, true, false, cond}
 use mathlib.Core.List.{List, [], _∷_, _++_, map}
-use Prim.Native.Nat.{ℕ, zero, suc, _+_, _≤_, _<_, min}
+use Prim.Native.Nat.{ℕ, zero, suc, _+_, _≤_, _<_}
 use native.Mathlib.Nat.{ne-of-lt, add-assoc, zero-add}
 use native.Mathlib.Decide.{ℕ-discrete}
 use native.Mathlib.Omega.{arith}
 use lib.Dec.{eqb}
 use lib.ListN.{length, getD, replicate}
 use borrow.Author.Tests.{eq-eqb, ne-eqb}
-use Rattle.game.specs.Table.{tabulateFrom, tabulate, sum, one-if, count}
-use Rattle.game.specs.Edge.{Edge, _─_, lower}
+use Rattle.game.specs.Table.{tabulateFrom, tabulate, sum, one-if}
+use Rattle.game.specs.Edge.{Edge, _─_, Tie, withoutRows}
 use Rattle.game.specs.Graph.{Proper}
-use Rattle.game.specs.Net.{owner, charge, weight, weights, charges}
+use Rattle.game.specs.Net.{owner, weight, weights, charges}
 use Rattle.game.proofs.Tables.{tabulate-length, tabulate-entry, tabulate-const, sum-tabulate-add, sum-zeros}
 use Rattle.game.proofs.Proper.{proper-head, proper-tail}
 
@@ -39,47 +38,51 @@ unfolding charged
 charged-elsewhere c k x d = rw (ne-eqb k x d)
 
 -- lists laid together: the weights add up
-pub weight-append : (es fs : List Edge) (x : ℕ) → weight (es ++ fs) x ≡ weight es x + weight fs x
+pub weight-append : (ts us : List Tie) (x : ℕ) → weight (ts ++ us) x ≡ weight ts x + weight us x
 unfolding weight
-weight-append es fs x = sum-map-append (λ (e : Edge). cond (eqb (owner e) x) (charge e) 0) es fs
+weight-append ts us x = sum-map-append (λ (t : Tie). cond (eqb (owner (t .edge)) x) (t .rows) 0) ts us
 
-pub charges-append : (es fs : List Edge) → charges (es ++ fs) ≡ charges es + charges fs
+pub charges-append : (ts us : List Tie) → charges (ts ++ us) ≡ charges ts + charges us
 unfolding charges
-charges-append es fs = sum-map-append charge es fs
+charges-append ts us = sum-map-append (λ (t : Tie). t .rows) ts us
 
-pub weight-cons : (e : Edge) (es : List Edge) (x : ℕ) → weight (e ∷ es) x ≡ charged (charge e) (owner e) x + weight es x
+pub weight-cons : (t : Tie) (ts : List Tie) (x : ℕ) → weight (t ∷ ts) x ≡ charged (t .rows) (owner (t .edge)) x + weight ts x
 unfolding weight charged
-weight-cons e es x = refl
+weight-cons t ts x = refl
 
 one-charged : (b : Bool) → cond b 1 0 ≡ one-if b
 unfolding one-if
 one-charged true = refl
 one-charged false = refl
 
--- a charged of 1 is a count
+-- a vertex is charged no more than all are
+pub weight-le : (ts : List Tie) (x : ℕ) → weight ts x ≤ charges ts
+unfolding weight charges
+weight-le [] x = omega arith
+weight-le (t ∷ ts) x = omega (arith, part (eqb (owner (t .edge)) x), weight-le ts x)
+  where
+    part : (b : Bool) → cond b (t .rows) 0 ≤ t .rows
+    part true = omega arith
+    part false = omega arith
+
+-- a charge of 1 is a count
 pub charged-one : (k x : ℕ) → charged 1 k x ≡ one-if (eqb k x)
 unfolding charged
 charged-one k x = one-charged (eqb k x)
 
--- each edge charges 1, to its lower end
-pub weight-count : (es : List Edge) (x : ℕ) → weight es x ≡ count (λ (e : Edge). eqb (lower e) x) es
-unfolding weight count owner charge
-weight-count [] x = refl
-weight-count (e ∷ es) x = ap₂ _+_ (one-charged (eqb (lower e) x)) (weight-count es x)
+-- no tie, no charge
+pub charges-empty : charges [] ≡ 0
+unfolding charges
+charges-empty = refl
 
-pub charges-count : (es : List Edge) → charges es ≡ length es
-unfolding charges charge
-charges-count [] = refl
-charges-count (e ∷ es) = omega (arith, charges-count es)
-
-pub weights-length : (n : ℕ) (es : List Edge) → length (weights n es) ≡ n
+pub weights-length : (n : ℕ) (ts : List Tie) → length (weights n ts) ≡ n
 unfolding weights
-weights-length n es = tabulate-length n (weight es)
+weights-length n ts = tabulate-length n (weight ts)
 
 -- the entry of x is its weight
-pub weights-entry : (n : ℕ) (es : List Edge) {x : ℕ} → x < n → getD (weights n es) x 0 ≡ weight es x
+pub weights-entry : (n : ℕ) (ts : List Tie) {x : ℕ} → x < n → getD (weights n ts) x 0 ≡ weight ts x
 unfolding weights
-weights-entry n es {x} h = tabulate-entry n (weight es) x 0 h
+weights-entry n ts {x} h = tabulate-entry n (weight ts) x 0 h
 
 -- no edge, no weight
 pub weights-empty : (n : ℕ) → weights n [] ≡ replicate n 0
@@ -103,11 +106,13 @@ pub sum-charged : (c n k : ℕ) → k < n → sum (tabulate n (charged c k)) ≡
 unfolding tabulate
 sum-charged c n k h = sum-charged-from c 0 n k (omega arith) (omega arith)
 
--- in a proper graph each edge is charged once
-pub weights-charges : {n : ℕ} {es : List Edge} → Proper n es → sum (weights n es) ≡ charges es
+-- in a proper graph each tie is charged once
+pub weights-charges : {n : ℕ} (ts : List Tie) → Proper n (withoutRows ts) → sum (weights n ts) ≡ charges ts
 unfolding weights weight charges owner charged
-weights-charges {n} {es = []} p = ap sum (weights-empty n) ∙ sum-zeros n
-weights-charges {n} {es = (a ─ b) ∷ es} p =
-    let (ha, hb, d) = proper-head p in
-    sum-tabulate-add n (charged (charge (a ─ b)) (owner (a ─ b))) (weight es)
-    ∙ ap₂ _+_ (sum-charged (charge (a ─ b)) n (min a b) (omega arith)) (weights-charges (proper-tail p))
+weights-charges {n} [] p = ap sum (weights-empty n) ∙ sum-zeros n
+weights-charges {n} (t ∷ ts) p =
+    sum-tabulate-add n (charged (t .rows) (owner (t .edge))) (weight ts)
+    ∙ ap₂ _+_ (sum-charged (t .rows) n (owner (t .edge)) (owner-below (t .edge) p)) (weights-charges ts (proper-tail p))
+  where
+    owner-below : (e : Edge) {es : List Edge} → Proper n (e ∷ es) → owner e < n
+    owner-below (a ─ b) q = let (ha, hb, d) = proper-head q in omega arith

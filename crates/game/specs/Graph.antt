@@ -4,7 +4,7 @@
 use mathlib.Core.Logic.{_≢_}
 use mathlib.Core.List.{List, [], _∷_, List·Memᴰ}
 use Prim.Native.Nat.{ℕ, _<_}
-use Rattle.game.specs.Edge.{Edge, _─_}
+use Rattle.game.specs.Edge.{Edge, _─_, Tie, tieOf}
 
 -- an edge of the graph has these two ends, written either way round
 pub data Linked (g : List Edge) (a b : ℕ) : Type 0 where
@@ -15,10 +15,25 @@ pub data Linked (g : List Edge) (a b : ℕ) : Type 0 where
 pub record Proper (n : ℕ) (g : List Edge) : Type 0 where
   pub each : (a b : ℕ) → Linked g a b → (a < n) × (b < n) × (a ≢ b)
 
+-- an edge, and a tie, written the other way round
+abbrev pub turn : Edge → Edge
+turn (a ─ b) = b ─ a
+
+abbrev pub turnTie : Tie → Tie
+turnTie t = tieOf (turn (t .edge)) (t .rows)
+
+-- the same entries in any order, each as it is or turned
+pub data SameEntries {A : Type 0} (turned : A → A) : List A → List A → Type 0 where
+  nil : SameEntries turned [] []
+  keep : {e : A} {es fs : List A} → SameEntries turned es fs → SameEntries turned (e ∷ es) (e ∷ fs)
+  flip : {e : A} {es fs : List A} → SameEntries turned es fs → SameEntries turned (e ∷ es) (turned e ∷ fs)
+  swap : {e f : A} {es : List A} → SameEntries turned (e ∷ f ∷ es) (f ∷ e ∷ es)
+  trans : {es fs gs : List A} → SameEntries turned es fs → SameEntries turned fs gs → SameEntries turned es gs
+
 -- the same edges, in any order and each either way round
-pub data Same : List Edge → List Edge → Type 0 where
-  nil : Same [] []
-  keep : {e : Edge} {es fs : List Edge} → Same es fs → Same (e ∷ es) (e ∷ fs)
-  flip : {a b : ℕ} {es fs : List Edge} → Same es fs → Same ((a ─ b) ∷ es) ((b ─ a) ∷ fs)
-  swap : {e f : Edge} {es : List Edge} → Same (e ∷ f ∷ es) (f ∷ e ∷ es)
-  trans : {es fs gs : List Edge} → Same es fs → Same fs gs → Same es gs
+abbrev pub Same : List Edge → List Edge → Type 0
+Same es fs = SameEntries turn es fs
+
+-- the same ties: each keeps its rows
+abbrev pub SameTies : List Tie → List Tie → Type 0
+SameTies ts us = SameEntries turnTie ts us

@@ -1,4 +1,4 @@
--- A net: an elimination forest with a weight on each vertex, and the net of an edge list.
+-- A net: an elimination forest with a weight on each vertex, and the net of a list of ties.
 --
 -- Document 01: "A net is a table of parents and a table of loads"; "The net of a tie list among n marks has the parents that
 -- Forest and the loads that Load give for these ties." A load is a weight here. Its reach is a vertex's column count in the
@@ -9,7 +9,7 @@ use mathlib.Core.List.{List, map}
 use Prim.Native.Nat.{ℕ}
 use lib.Dec.{eqb}
 use Rattle.game.specs.Table.{tabulate, sum, count, some-entry}
-use Rattle.game.specs.Edge.{Edge, _─_, lower}
+use Rattle.game.specs.Edge.{Edge, _─_, lower, Tie, withoutRows}
 use Rattle.game.specs.Game.{forest}
 use Rattle.game.specs.Tree.{ancestors, under}
 
@@ -20,36 +20,33 @@ pub record Net : Type 0 where
 abbrev pub net : List ℕ → List ℕ → Net
 net parents weights = record { parents = parents; weights = weights }
 
--- the vertex that an edge is charged to, and how much: one to its lower end
+-- the vertex that a tie is charged to: the lower end of its edge
 unfoldable pub owner : Edge → ℕ
 unfolding lower
 owner e = lower e
 
-unfoldable pub charge : Edge → ℕ
-charge e = 1
+-- "Load of x: the number of ties whose lower end is x, repeats counted"; since Paper 6 "Load is the sum of rows": what is charged to x
+unfoldable pub weight : List Tie → ℕ → ℕ
+unfolding owner sum
+weight ts x = sum (map (λ (t : Tie). cond (eqb (owner (t .edge)) x) (t .rows) 0) ts)
 
--- "Load of x: the number of ties whose lower end is x, repeats counted": what the edges charge to x
-unfoldable pub weight : List Edge → ℕ → ℕ
-unfolding owner charge sum
-weight es x = sum (map (λ (e : Edge). cond (eqb (owner e) x) (charge e) 0) es)
+-- what a list of ties is charged in all
+unfoldable pub charges : List Tie → ℕ
+unfolding sum
+charges ts = sum (map (λ (t : Tie). t .rows) ts)
 
--- what a list of edges is charged in all
-unfoldable pub charges : List Edge → ℕ
-unfolding charge sum
-charges es = sum (map charge es)
-
-unfoldable pub weights : ℕ → List Edge → List ℕ
+unfoldable pub weights : ℕ → List Tie → List ℕ
 unfolding tabulate weight
-weights n es = tabulate n (weight es)
+weights n ts = tabulate n (weight ts)
 
 -- "Total: the sum of the loads"
 abbrev pub total : Net → ℕ
 total of = sum (of .weights)
 
--- the net of an edge list on n vertices
-unfoldable pub netOf : ℕ → List Edge → Net
+-- the net of a list of ties on n vertices
+unfoldable pub netOf : ℕ → List Tie → Net
 unfolding forest weights
-netOf n es = net (forest n es) (weights n es)
+netOf n ts = net (forest n (withoutRows ts)) (weights n ts)
 
 -- the edge runs between y and a vertex under x
 unfoldable pub enters : List ℕ → ℕ → ℕ → Edge → Bool

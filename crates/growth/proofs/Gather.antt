@@ -97,7 +97,7 @@ gather-whole {E = E} {bucket = bucket} c s o =
     (c .climbed E (standing-on (carries-among (λ w m. absurd (List·Memᴰ·not-nil m))) s) o)
 
 -- all begun, then each made to its end
-pub gather-begun : {y : ℕ} {keep : Bool} {E : List Edge} {bucket weights p jump table weights′ q leap table′ p′ jump′ : List ℕ} → length q ≡ length p → Begins y bucket weights p jump table weights′ q leap → ConnectsAll y keep table q leap table′ p′ jump′
+pub gather-begun : {y : ℕ} {keep : Bool} {E : List Edge} {bucket p jump table q leap table′ p′ jump′ : List ℕ} → length q ≡ length p → Begins y bucket p jump table q leap → ConnectsAll y keep table q leap table′ p′ jump′
     → Standing (length p) E y [] (newParents p jump) jump → Offers E y bucket → Gathered (length p) E y bucket (newParents p jump) (newParents p′ jump′) jump′
 gather-begun {y} {E = E} {bucket = bucket} {p = p} {jump = jump} {table = table} {q = q} {leap = leap} {p′ = p′} {jump′ = jump′} same b c s o =
     gathered (g .kept) (subst (λ (ws : List ℕ). (i : ℕ) → i < length bucket → Joins (newParents q leap) y ws (getD bucket i 0)) whole (g .joins))

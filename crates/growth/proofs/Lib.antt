@@ -2,7 +2,7 @@ pub mod NewParents
 pub mod Moves
 pub mod Climbs
 pub mod Gather
-pub mod Weigh
+pub mod ReadUpTo
 pub mod Raise
 pub mod Rooms
 pub mod Regrown

@@ -72,7 +72,7 @@ raise-step {n} {y} {E} {p} {p′ = p′} r g = record { standing = standing-up (
         (λ (d : b ≢ y). kept-conn (r .standing .long ∙ sym (g .standing .long)) (g .kept) (r .covered a b l low (omega arith)))
 
 -- the same by what gathering promises of the bucket that is filed
-pub raise-gather : {n y : ℕ} {E : List Edge} {keep : Bool} {bucket weights p jump bucket′ weights′ p′ jump′ : List ℕ} → length p ≡ n → bucket ≡ lowerEnds E y → Gathers y keep bucket weights p jump bucket′ weights′ p′ jump′ → Proper n E → Raised n E y (newParents p jump) jump → Raised n E (y + 1) (newParents p′ jump′) jump′
+pub raise-gather : {n y : ℕ} {E : List Edge} {keep : Bool} {bucket p jump bucket′ p′ jump′ : List ℕ} → length p ≡ n → bucket ≡ lowerEnds E y → Gathers y keep bucket p jump bucket′ p′ jump′ → Proper n E → Raised n E y (newParents p jump) jump → Raised n E (y + 1) (newParents p′ jump′) jump′
 raise-gather {n} {y} {E} {bucket} {p = p} {jump = jump} {p′ = p′} {jump′ = jump′} e b g proper r =
     raise-step r (subst (λ (us : List ℕ). Gathered n E y us (newParents p jump) (newParents p′ jump′) jump′) b (gathered e r))
   where

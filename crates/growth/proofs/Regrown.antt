@@ -1,7 +1,6 @@
 -- A forest grown from what is filed.
 -- Assumes nothing.
 use mathlib.Core.Path.{_≡_, sym, subst, _∙_}
-use mathlib.Core.Bool.{false}
 use mathlib.Core.List.{List}
 use Prim.Native.Nat.{ℕ, _≤_}
 use lib.ListN.{length}
@@ -9,21 +8,15 @@ use Rattle.game.specs.Edge.{Edge}
 use Rattle.game.specs.Game.{forest}
 use Rattle.game.specs.Graph.{Proper}
 use Rattle.refusal.specs.Limits.{maxVertices}
-use Rattle.bucket.specs.Ends.{tallied}
 use Rattle.bucket.specs.Filed.{Filed}
 use Rattle.bucket.proofs.Reading.{filed-consecutive}
-use Rattle.growth.specs.Growth.{LinksIn, Grown, Growable, Regrows}
+use Rattle.growth.specs.Growth.{LinksIn, Grown, Growable}
 
 -- what is filed has room to be grown
 pub filed-growable : {n : ℕ} {E : List Edge} {ends lower p jump : List ℕ} → Filed n E ends lower → n ≤ maxVertices → length p ≡ n → length jump ≡ n → Growable ends lower p jump
 filed-growable f few e g = record { long = e ∙ sym (f .sorted .long); long-jump = g ∙ sym (f .sorted .long); buckets = filed-consecutive f few }
 
 -- what was filed is grown
-pub regrown : {n : ℕ} {E : List Edge} {ends lower p jump p′ ends′ lower′ jump′ : List ℕ} → Proper n E → Filed n E ends lower → LinksIn p E → Regrows ends lower p jump p′ ends′ lower′ jump′ → p′ ≡ forest n E
-regrown {n} {E} {ends} {lower} {p} {p′ = p′} k f i r =
-    subst (λ (m : ℕ). Proper m E → Filed m E ends lower → p′ ≡ forest m E) (f .sorted .long) (λ g h. r .grown E g h i) k f
-
--- what was filed is grown with its weights
-pub grown-filed : {n : ℕ} {E : List Edge} {ends lower weights p p′ weights′ : List ℕ} → Filed n E ends lower → LinksIn p E → Grown ends lower weights p p′ weights′ → (p′ ≡ forest n E) × (weights′ ≡ tallied false E weights)
-grown-filed {n} {E} {ends} {lower} {weights} {p′ = p′} {weights′ = weights′} f i g =
-    subst (λ (m : ℕ). Proper m E → Filed m E ends lower → (p′ ≡ forest m E) × (weights′ ≡ tallied false E weights)) (f .sorted .long) (λ k h. (g .parents E k h i, g .weighed E h)) (f .proper) f
+pub grown-filed : {n : ℕ} {E : List Edge} {ends lower p p′ : List ℕ} → Filed n E ends lower → LinksIn p E → Grown ends lower p p′ → p′ ≡ forest n E
+grown-filed {n} {E} {ends} {lower} {p′ = p′} f i g =
+    subst (λ (m : ℕ). Proper m E → Filed m E ends lower → p′ ≡ forest m E) (f .sorted .long) (λ k h. g .parents E k h i) (f .proper) f

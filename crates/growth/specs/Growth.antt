@@ -7,17 +7,16 @@ use mathlib.Core.Path.{_≡_}
 use mathlib.Core.Logic.{_⊎_}
 use mathlib.Core.Bool.{Bool, true, false, cond}
 use mathlib.Core.List.{List, [], _∷_, _++_, List·Memᴰ}
-use Prim.Native.Nat.{ℕ, _+_, _^_, _≤_, _<_}
+use Prim.Native.Nat.{ℕ, _≤_, _<_}
 use lib.Dec.{eqb}
 use lib.ListN.{length, getD, take, drop, replicate}
-use Rattle.game.specs.Table.{tabulate, count}
+use Rattle.game.specs.Table.{tabulate}
 use Rattle.game.specs.Edge.{Edge}
 use Rattle.game.specs.Game.{absent, forest}
 use Rattle.game.specs.Tree.{links}
 use Rattle.game.proofs.Conn.{Conn}
 use Rattle.game.specs.Graph.{Linked, Proper}
 use Rattle.growth.specs.Work.{workOf, cleared}
-use Rattle.bucket.specs.Ends.{tallied}
 use Rattle.sorting.specs.Sorted.{begin}
 use Rattle.bucket.specs.Filed.{Consecutive, Filed}
 
@@ -102,11 +101,6 @@ pub record Steps (u y : ℕ) (p jump p′ jump′ : List ℕ) (w : ℕ) : Type 0
   pub stepped : (E : List Edge) (ws : List ℕ) → Standing (length p) E y (u ∷ ws) (newParents p jump) jump → Conn E y u y
       → Climbing (length p) E y u w ws (newParents p jump) (newParents p′ jump′) jump′
 
--- each vertex of a list is weighed: 1 is added to its weight, if the table has one for it
-pub record Weighs (us weights weights′ : List ℕ) : Type 0 where
-  pub long : length weights′ ≡ length weights
-  pub each : (v : ℕ) → v < length weights → getD weights′ v 0 ≡ getD weights v 0 + count (λ (u : ℕ). eqb u v) us
-
 -- the graph joins each vertex of a list to y, at y's height
 pub record Offers (E : List Edge) (y : ℕ) (us : List ℕ) : Type 0 where
   pub offer : (i : ℕ) → i < length us → Conn E y (getD us i 0) y
@@ -136,10 +130,9 @@ pub record ReadUpTo (keep : Bool) (was : List ℕ) (i : ℕ) (table : List ℕ) 
   pub same : table ≡ leftOf keep (take i was) ++ drop i was
 
 -- what beginning a climb for y from each vertex of a bucket promises: the bucket then holds where they stand
-pub record Begins (y : ℕ) (bucket weights p jump bucket′ weights′ p′ jump′ : List ℕ) : Type 0 where
+pub record Begins (y : ℕ) (bucket p jump bucket′ p′ jump′ : List ℕ) : Type 0 where
   pub upward : Upward (length p) jump′
   pub long : length bucket′ ≡ length bucket
-  pub weighed : Weighs bucket weights weights′
   pub untouched : Untouched p jump p′ jump′
   pub begun : (E : List Edge) → Standing (length p) E y [] (newParents p jump) jump → Offers E y bucket
       → Begun (length p) E y (length bucket) bucket bucket′ (newParents p jump) (newParents p′ jump′) jump′
@@ -153,10 +146,9 @@ pub record ConnectsAll (y : ℕ) (keep : Bool) (us p jump us′ p′ jump′ : L
       → Climbed (length p) E y us [] (newParents p jump) (newParents p′ jump′) jump′
 
 -- what gathering a bucket for y promises
-pub record Gathers (y : ℕ) (keep : Bool) (bucket weights p jump bucket′ weights′ p′ jump′ : List ℕ) : Type 0 where
+pub record Gathers (y : ℕ) (keep : Bool) (bucket p jump bucket′ p′ jump′ : List ℕ) : Type 0 where
   pub upward : Upward (length p) jump′
   pub leaves : bucket′ ≡ leftOf keep bucket
-  pub weighed : Weighs bucket weights weights′
   pub untouched : Untouched p jump p′ jump′
   pub gathered : (E : List Edge) → Standing (length p) E y [] (newParents p jump) jump → Offers E y bucket
       → Gathered (length p) E y bucket (newParents p jump) (newParents p′ jump′) jump′
@@ -166,24 +158,17 @@ pub record Raised (n : ℕ) (E : List Edge) (y : ℕ) (p jump : List ℕ) : Type
   pub standing : Standing n E y [] p jump
   pub covered : (a b : ℕ) → Linked E a b → a < b → b < y → Conn (links p) b a b
 
--- no weight grows too large, whatever the buckets hold
-pub record Light (weights lower : List ℕ) : Type 0 where
-  pub light : (v : ℕ) → v < length weights → getD weights v 0 + length lower < 2 ^ 32
-
 -- the tables before raising: no vertex has a jump
-pub record Blank (ends lower weights p jump : List ℕ) : Type 0 where
+pub record Blank (ends lower p jump : List ℕ) : Type 0 where
   pub long : length p ≡ length ends
   pub blank-jump : jump ≡ replicate (length ends) absent
   pub buckets : Consecutive ends lower
-  pub light : Light weights lower
 
--- what raising promises: the new parents are the elimination forest of whatever graph is filed, the weights are those of the buckets, which
--- are kept or cleared
-pub record Raises (keep : Bool) (ends lower weights p jump lower′ weights′ p′ jump′ : List ℕ) (end : ℕ) : Type 0 where
+-- what raising promises: the new parents are the elimination forest of whatever graph is filed; the buckets are kept or cleared
+pub record Raises (keep : Bool) (ends lower p jump lower′ p′ jump′ : List ℕ) (end : ℕ) : Type 0 where
   pub raised : (E : List Edge) → Proper (length ends) E → Filed (length ends) E ends lower → newParents p′ jump′ ≡ forest (length ends) E
   pub untouched : Untouched p jump p′ jump′
   pub last : end ≡ begin ends (length ends)
-  pub weighed : Weighs (take end lower) weights weights′
   pub leaves : ReadUpTo keep lower end lower′
 
 -- a forest can be grown from what is filed: the tables' lengths fit
@@ -196,22 +181,16 @@ pub record Growable (ends lower p jump : List ℕ) : Type 0 where
 pub record LinksIn (p : List ℕ) (E : List Edge) : Type 0 where
   pub each : (z : ℕ) → z < length p → (getD p z absent ≡ absent → ⊥) → Linked E z (getD p z absent) × (z < getD p z absent)
 
--- a net is grown: it has the parents of whatever graph was filed, if that has the old links, and the weights that the graph adds
-pub record Grown (ends lower weights p p′ weights′ : List ℕ) : Type 0 where
+-- a forest is grown: the parents are those of whatever graph was filed, if that has the old links
+pub record Grown (ends lower p p′ : List ℕ) : Type 0 where
   pub parents : (E : List Edge) → Proper (length ends) E → Filed (length ends) E ends lower → LinksIn p E → p′ ≡ forest (length ends) E
-  pub weighed : (E : List Edge) → Filed (length ends) E ends lower → weights′ ≡ tallied false E weights
 
--- what growing promises: a grown net, and cleared work tables
-pub record Grows (ends lower weights p jump p′ weights′ ends′ lower′ jump′ : List ℕ) : Type 0 where
-  pub grown : Grown ends lower weights p p′ weights′
+-- what growing promises: a grown forest, and cleared work tables
+pub record Grows (ends lower p jump p′ ends′ lower′ jump′ : List ℕ) : Type 0 where
+  pub grown : Grown ends lower p p′
   pub clear : workOf ends′ jump′ lower′ ≡ cleared (workOf ends jump lower)
 
 -- what growing promises where the buckets are kept
-pub record GrowsKept (ends lower weights p p′ weights′ lower′ : List ℕ) : Type 0 where
-  pub grown : Grown ends lower weights p p′ weights′
+pub record GrowsKept (ends lower p p′ lower′ : List ℕ) : Type 0 where
+  pub grown : Grown ends lower p p′
   pub kept : lower′ ≡ lower
-
--- what growing without weights promises: the parents of whatever graph was filed, and cleared work tables
-pub record Regrows (ends lower p jump p′ ends′ lower′ jump′ : List ℕ) : Type 0 where
-  pub grown : (E : List Edge) → Proper (length ends) E → Filed (length ends) E ends lower → LinksIn p E → p′ ≡ forest (length ends) E
-  pub clear : workOf ends′ jump′ lower′ ≡ cleared (workOf ends jump lower)

@@ -4,7 +4,7 @@ use mathlib.Core.Path.{_≡_}
 use mathlib.Core.List.{List}
 use Prim.Native.Nat.{ℕ, _+_, _≤_}
 use lib.ListN.{length}
-use Rattle.game.specs.Edge.{edges}
+use Rattle.game.specs.Edge.{ties, edges}
 use Rattle.game.specs.Net.{Net}
 use Rattle.refusal.specs.Limits.{maxVertices, maxEdges}
 use Rattle.refusal.specs.Refusal.{firstFault}
@@ -14,7 +14,7 @@ use Rattle.growth.specs.Work.{Work}
 pub record ListFits (xs : List ℕ) (lent : Net) (work : Work) : Type 0 where
   pub vertices : length (lent .parents) ≤ maxVertices
   pub few : length (edges xs) ≤ maxEdges
-  pub faultless : firstFault (length (lent .parents)) (edges xs) ≡ 0
+  pub faultless : firstFault (length (lent .parents)) (ties xs) ≡ 0
   pub weights : length (lent .weights) ≡ length (lent .parents)
   pub ends : length (work .ends) ≡ length (lent .parents)
   pub jump : length (work .jump) ≡ length (lent .parents)

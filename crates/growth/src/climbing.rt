@@ -1,6 +1,5 @@
 // Climbs: from a vertex up to the root of its tree, which becomes a child of y. They are made one by one, or begun all, one step each, and
 // gone on with from where they stand.
-use crate::weighing::weigh;
 use net::Net;
 ghost use mathlib.Core.Path.{_≡_};
 ghost use mathlib.Core.Bool.{cond};
@@ -8,7 +7,7 @@ ghost use Prim.Native.Nat.{_<_, _≤_};
 ghost use lib.ListN.{length};
 ghost use Rattle.refusal.specs.Limits.{maxVertices};
 ghost use Rattle.growth.specs.Moves.{Moves};
-ghost use Rattle.growth.specs.Growth.{Upward, Connects, Steps, ConnectsAll, Light, Begins};
+ghost use Rattle.growth.specs.Growth.{Upward, Connects, Steps, ConnectsAll, Begins};
 
 // Where a climb stands after a step, y if it has ended, and the lowest vertex that moved so far.
 struct Stand {
@@ -83,24 +82,22 @@ pub fn climb_all(
     lowest
 }
 
-// Begins a climb for y from each vertex of y's bucket and weighs it; the bucket then holds where the climbs stand. Answers the lowest
-// vertex that moved so far.
+// Begins a climb for y from each vertex of y's bucket, which then holds where the climbs stand. Answers the lowest vertex that moved so
+// far.
 pub fn step_all(
     y: u32,
     bucket: &mut [u32],
-    weights: &mut [u32],
     parents: &mut [u32],
     jump: &mut [u32],
     moved: u32,
 ) -> u32
-    requires { ⌜ (y < length (now parents)) × (length (now parents) ≤ maxVertices) × Upward (length (now parents)) (now jump) × Light (now weights) (now bucket) ⌝ }
-    ensures { λ r. ⌜ Begins y (now (bucket .entry)) (now (weights .entry)) (now (parents .entry)) (now (jump .entry)) (now (bucket .exit)) (now (weights .exit)) (now (parents .exit)) (now (jump .exit)) × Moves (now (parents .entry)) (now (jump .entry)) moved (now (parents .exit)) (now (jump .exit)) r ⌝ }
+    requires { ⌜ (y < length (now parents)) × (length (now parents) ≤ maxVertices) × Upward (length (now parents)) (now jump) ⌝ }
+    ensures { λ r. ⌜ Begins y (now (bucket .entry)) (now (parents .entry)) (now (jump .entry)) (now (bucket .exit)) (now (parents .exit)) (now (jump .exit)) × Moves (now (parents .entry)) (now (jump .entry)) moved (now (parents .exit)) (now (jump .exit)) r ⌝ }
 {
     let mut lowest = moved;
     let mut i = 0;
     while i < bucket.len() {
         let u = bucket[i];
-        weigh(u, weights);
         let first = step(u, y, parents, jump, lowest);
         bucket[i] = first.at;
         lowest = first.moved;

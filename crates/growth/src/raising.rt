@@ -1,6 +1,5 @@
 // The growth of a forest by union-find with path compression, over edges by rising upper end (document 001).
 use crate::climbing;
-use crate::weighing;
 use net::Net;
 use table::wide;
 ghost use mathlib.Core.Path.{_≡_};
@@ -11,28 +10,27 @@ ghost use Rattle.refusal.specs.Limits.{maxVertices};
 ghost use Rattle.moved.specs.Steps.{Differ};
 ghost use Rattle.growth.specs.Moves.{Moves};
 ghost use Rattle.growth.specs.Work.{workOf, cleared};
-ghost use Rattle.growth.specs.Growth.{Upward, Light, Gathers, Blank, Raises, Growable, Grows, GrowsKept, Regrows};
+ghost use Rattle.growth.specs.Growth.{Upward, Gathers, Blank, Raises, Growable, Grows, GrowsKept};
 
-// Takes in y's bucket: climbs from each of its vertices and weighs it. The first steps of all climbs are made before any goes on, because
-// they lead far apart and need not wait for each other. They go on from the bucket's own places, so where those are kept, each climb is
-// made whole; and where there are no weights, because then most of what is filed are links, one or two to a bucket.
+// Takes in y's bucket: climbs from each of its vertices. The first steps of all climbs are made before any goes on, because they lead far
+// apart and need not wait for each other. They go on from the bucket's own places, so where those are kept, each climb is made whole; and
+// where that is asked for, because most of what is filed are links, one or two to a bucket.
 fn gather(
     y: u32,
     keep: bool,
+    whole: bool,
     bucket: &mut [u32],
-    weights: &mut [u32],
     parents: &mut [u32],
     jump: &mut [u32],
     moved: u32,
 ) -> u32
-    requires { ⌜ (y < length (now parents)) × (length (now parents) ≤ maxVertices) × Upward (length (now parents)) (now jump) × Light (now weights) (now bucket) ⌝ }
-    ensures { λ r. ⌜ Gathers y keep (now (bucket .entry)) (now (weights .entry)) (now (parents .entry)) (now (jump .entry)) (now (bucket .exit)) (now (weights .exit)) (now (parents .exit)) (now (jump .exit)) × Moves (now (parents .entry)) (now (jump .entry)) moved (now (parents .exit)) (now (jump .exit)) r ⌝ }
+    requires { ⌜ (y < length (now parents)) × (length (now parents) ≤ maxVertices) × Upward (length (now parents)) (now jump) ⌝ }
+    ensures { λ r. ⌜ Gathers y keep (now (bucket .entry)) (now (parents .entry)) (now (jump .entry)) (now (bucket .exit)) (now (parents .exit)) (now (jump .exit)) × Moves (now (parents .entry)) (now (jump .entry)) moved (now (parents .exit)) (now (jump .exit)) r ⌝ }
 {
-    if keep | (weights.len() == 0) {
-        weighing::weigh_all(bucket, weights);
+    if keep | whole {
         return climbing::climb_all(y, keep, bucket, parents, jump, moved);
     }
-    let lowest = climbing::step_all(y, bucket, weights, parents, jump, moved);
+    let lowest = climbing::step_all(y, bucket, parents, jump, moved);
     climbing::climb_all(y, keep, bucket, parents, jump, lowest)
 }
 
@@ -47,14 +45,14 @@ struct Raising {
 // cleared.
 fn raise(
     parents: &mut [u32],
-    weights: &mut [u32],
     keep: bool,
+    whole: bool,
     ends: &[u32],
     jump: &mut [u32],
     lower: &mut [u32],
 ) -> Raising
-    requires { ⌜ Blank (now ends) (now lower) (now weights) (now parents) (now jump) ⌝ }
-    ensures { λ r. ⌜ Raises keep (now (ends .entry)) (now (lower .entry)) (now (weights .entry)) (now (parents .entry)) (now (jump .entry)) (now (lower .exit)) (now (weights .exit)) (now (parents .exit)) (now (jump .exit)) (r .end) × Moves (now (parents .entry)) (now (jump .entry)) absent (now (parents .exit)) (now (jump .exit)) (r .moved) ⌝ }
+    requires { ⌜ Blank (now ends) (now lower) (now parents) (now jump) ⌝ }
+    ensures { λ r. ⌜ Raises keep (now (ends .entry)) (now (lower .entry)) (now (parents .entry)) (now (jump .entry)) (now (lower .exit)) (now (parents .exit)) (now (jump .exit)) (r .end) × Moves (now (parents .entry)) (now (jump .entry)) absent (now (parents .exit)) (now (jump .exit)) (r .moved) ⌝ }
 {
     let mut moved = Net::ABSENT;
     let mut at = 0;
@@ -64,8 +62,8 @@ fn raise(
         moved = gather(
             y as u32,
             keep,
+            whole,
             &mut lower[at..end],
-            weights,
             parents,
             jump,
             moved,
@@ -86,45 +84,29 @@ pub fn clear(ends: &mut [u32], jump: &mut [u32], lower: &mut [u32], from: usize)
     table::fill(&mut lower[from..], 0);
 }
 
-// Grows the forest of the graph that is filed, which has the links that the table of parents holds, adds the weights that the graph
-// gives, and clears the work tables. Answers the lowest vertex that moved.
+// Grows the forest of the graph that is filed, which has the links that the table of parents holds, and clears the work tables. Climbs are
+// made whole where the flag is set: that is quicker where most of what is filed are links. Answers the lowest vertex that moved.
 pub fn grow(
     parents: &mut [u32],
-    weights: &mut [u32],
+    whole: bool,
     ends: &mut [u32],
     jump: &mut [u32],
     lower: &mut [u32],
 ) -> u32
-    requires { ⌜ Growable (now ends) (now lower) (now parents) (now jump) × Light (now weights) (now lower) ⌝ }
-    ensures { λ r. ⌜ Grows (now (ends .entry)) (now (lower .entry)) (now (weights .entry)) (now (parents .entry)) (now (jump .entry)) (now (parents .exit)) (now (weights .exit)) (now (ends .exit)) (now (lower .exit)) (now (jump .exit)) × Differ (now (parents .entry)) (now (parents .exit)) r ⌝ }
+    requires { ⌜ Growable (now ends) (now lower) (now parents) (now jump) ⌝ }
+    ensures { λ r. ⌜ Grows (now (ends .entry)) (now (lower .entry)) (now (parents .entry)) (now (jump .entry)) (now (parents .exit)) (now (ends .exit)) (now (lower .exit)) (now (jump .exit)) × Differ (now (parents .entry)) (now (parents .exit)) r ⌝ }
 {
     table::fill(jump, Net::ABSENT);
-    let raising = raise(parents, weights, false, ends, jump, lower);
+    let raising = raise(parents, false, whole, ends, jump, lower);
     clear(ends, jump, lower, raising.end);
     raising.moved
 }
 
 // Grows the forest in the same way, with what is filed kept for the next reader. The jumps are left as they stand.
-pub fn grow_kept(
-    parents: &mut [u32],
-    weights: &mut [u32],
-    ends: &[u32],
-    jump: &mut [u32],
-    lower: &mut [u32],
-)
-    requires { ⌜ Growable (now ends) (now lower) (now parents) (now jump) × Light (now weights) (now lower) ⌝ }
-    ensures { λ _. ⌜ GrowsKept (now (ends .entry)) (now (lower .entry)) (now (weights .entry)) (now (parents .entry)) (now (parents .exit)) (now (weights .exit)) (now (lower .exit)) ⌝ }
+pub fn grow_kept(parents: &mut [u32], ends: &[u32], jump: &mut [u32], lower: &mut [u32])
+    requires { ⌜ Growable (now ends) (now lower) (now parents) (now jump) ⌝ }
+    ensures { λ _. ⌜ GrowsKept (now (ends .entry)) (now (lower .entry)) (now (parents .entry)) (now (parents .exit)) (now (lower .exit)) ⌝ }
 {
     table::fill(jump, Net::ABSENT);
-    raise(parents, weights, true, ends, jump, lower);
-}
-
-// Grows the forest of the graph that is filed, and clears the work tables. Some edges may be old links, so no weight is counted: the
-// table for it is empty. Answers the lowest vertex that moved.
-pub fn regrow(parents: &mut [u32], ends: &mut [u32], jump: &mut [u32], lower: &mut [u32]) -> u32
-    requires { ⌜ Growable (now ends) (now lower) (now parents) (now jump) ⌝ }
-    ensures { λ r. ⌜ Regrows (now (ends .entry)) (now (lower .entry)) (now (parents .entry)) (now (jump .entry)) (now (parents .exit)) (now (ends .exit)) (now (lower .exit)) (now (jump .exit)) × Differ (now (parents .entry)) (now (parents .exit)) r ⌝ }
-{
-    let mut none = [0u32; 0];
-    grow(parents, &mut none, ends, jump, lower)
+    raise(parents, true, true, ends, jump, lower);
 }

@@ -1,5 +1,5 @@
 -- What every call keeps, whether it is accepted or refused: each net with a list is the net of its list, each file with a list is the link
--- file of the net of its list, and the list's edges are sound for the net's vertices.
+-- file of the net of its list, and the list's ties are sound for the net's vertices.
 -- Assumes nothing.
 use mathlib.Core.Path.{_≡_, refl, sym, ap, ap₂, subst, _∙_}
 use mathlib.Core.Bool.{Bool, true, false}
@@ -9,9 +9,10 @@ use Prim.Native.Nat.{ℕ, zero, suc, _≤_, _<_}
 use native.Mathlib.Omega.{arith}
 use lib.Dec.{eqb}
 use lib.ListN.{length}
-use Rattle.game.specs.Edge.{Edge, edges}
-use Rattle.game.specs.Game.{absent}
+use Rattle.game.specs.Edge.{Tie, withoutRows, ties}
+use Rattle.game.specs.Game.{absent, forest}
 use Rattle.game.specs.Net.{Net, netOf}
+use Rattle.game.proofs.Edges.{rowless-append}
 use Rattle.game.proofs.Forest.{forest-length}
 use Rattle.game.proofs.Weights.{weights-length}
 use Rattle.game.proofs.Proper.{proper-nil, proper-append}
@@ -54,25 +55,25 @@ pub record Count (n : ℕ) : Type 0 where
   pub some : 0 < n
   pub few : n ≤ maxVertices
 
-pub record NetOf (net : Net) (ts : List Edge) : Type 0 where
+pub record NetOf (net : Net) (ts : List Tie) : Type 0 where
   pub vertices : ℕ
   pub count : Count vertices
-  pub proper : Proper vertices ts
+  pub proper : Proper vertices (withoutRows ts)
   pub is : net ≡ netOf vertices ts
 
-pub record FileOf (bytes : List ℕ) (ts : List Edge) : Type 0 where
+pub record FileOf (bytes : List ℕ) (ts : List Tie) : Type 0 where
   pub vertices : ℕ
   pub count : Count vertices
-  pub proper : Proper vertices ts
+  pub proper : Proper vertices (withoutRows ts)
   pub is : bytes ≡ linkFile (netOf vertices ts)
   pub undamaged : damaged (netOf vertices ts) ≡ false
 
 -- of a net and what the book keeps of it, and of a file
 pub record NetKept (net : Net) (noted : Option NetRecord) : Type 0 where
-  pub kept : (r : NetRecord) → noted ≡ some r → NetOf net (r .edges)
+  pub kept : (r : NetRecord) → noted ≡ some r → NetOf net (r .ties)
 
 pub record FileKept (bytes : List ℕ) (noted : Option FileRecord) : Type 0 where
-  pub kept : (r : FileRecord) → noted ≡ some r → FileOf bytes (r .edges)
+  pub kept : (r : FileRecord) → noted ≡ some r → FileOf bytes (r .ties)
 
 pub record Kept (w : World) (b : Book) : Type 0 where
   pub nets : (i : ℕ) → NetKept (w .nets i) (b .nets i)
@@ -93,22 +94,26 @@ file-written {w} {b} v f zero new noted e q h =
 file-written {w} {b} v f (suc k) new noted e q h =
     record { nets = v .nets; files = update-same FileKept (w .files) (b .files) (v .files) f (w .files f) refl }
 
-pub net-lengths : (n : ℕ) (ts : List Edge) → (length (netOf n ts .parents) ≡ n) × (length (netOf n ts .weights) ≡ n)
+pub net-lengths : (n : ℕ) (ts : List Tie) → (length (netOf n ts .parents) ≡ n) × (length (netOf n ts .weights) ≡ n)
 unfolding netOf
-net-lengths n ts = (forest-length n ts, weights-length n ts)
+net-lengths n ts = (forest-length n (withoutRows ts), weights-length n ts)
 
-pub parents-length : {net : Net} {ts : List Edge} (g : NetOf net ts) → length (net .parents) ≡ g .vertices
+pub parents-length : {net : Net} {ts : List Tie} (g : NetOf net ts) → length (net .parents) ≡ g .vertices
 parents-length {ts = ts} g = ap (λ (x : Net). length (x .parents)) (g .is) ∙ net-lengths (g .vertices) ts .0
+
+pub net-parents : {net : Net} {ts : List Tie} (g : NetOf net ts) → net .parents ≡ forest (g .vertices) (withoutRows ts)
+unfolding netOf
+net-parents g = ap (λ (x : Net). x .parents) (g .is)
 
 small : {n : ℕ} → Count n → n ≤ absent
 small c = omega (arith, c .few)
 
 -- the record that was put in is the one that is found
-net-recorded : {net : Net} (r : NetRecord) → NetOf net (r .edges) → NetKept net (some r)
-net-recorded {net} r g = record { kept = λ s e. let same : r ≡ s = cc in subst (λ (t : NetRecord). NetOf net (t .edges)) same g }
+net-recorded : {net : Net} (r : NetRecord) → NetOf net (r .ties) → NetKept net (some r)
+net-recorded {net} r g = record { kept = λ s e. let same : r ≡ s = cc in subst (λ (t : NetRecord). NetOf net (t .ties)) same g }
 
-file-recorded : {bytes : List ℕ} (r : FileRecord) → FileOf bytes (r .edges) → FileKept bytes (some r)
-file-recorded {bytes} r g = record { kept = λ s e. let same : r ≡ s = cc in subst (λ (t : FileRecord). FileOf bytes (t .edges)) same g }
+file-recorded : {bytes : List ℕ} (r : FileRecord) → FileOf bytes (r .ties) → FileKept bytes (some r)
+file-recorded {bytes} r g = record { kept = λ s e. let same : r ≡ s = cc in subst (λ (t : FileRecord). FileOf bytes (t .ties)) same g }
 
 -- nothing is claimed where nothing is kept
 pub net-unrecorded : {net : Net} → NetKept net none
@@ -117,59 +122,62 @@ net-unrecorded = record { kept = λ r e. absurd (Option·none-ne-some r e) }
 pub file-unrecorded : {bytes : List ℕ} → FileKept bytes none
 file-unrecorded = record { kept = λ r e. absurd (Option·none-ne-some r e) }
 
-of-net : {n : ℕ} {ts : List Edge} → Count n → Proper n ts → NetOf (netOf n ts) ts
+of-net : {n : ℕ} {ts : List Tie} → Count n → Proper n (withoutRows ts) → NetOf (netOf n ts) ts
 of-net {n} c p = record { vertices = n; count = c; proper = p; is = refl }
 
 -- a list behind a list
-both : (a b : Option NetRecord) {net : Net} → ((r s : NetRecord) → a ≡ some r → b ≡ some s → NetOf net (r .edges ++ s .edges)) → NetKept net (behind a b)
+both-proper : {n : ℕ} (ts us : List Tie) → Proper n (withoutRows ts) → Proper n (withoutRows us) → Proper n (withoutRows (ts ++ us))
+both-proper {n} ts us p q = subst (Proper n) (sym (rowless-append ts us)) (proper-append p q)
+
+both : (a b : Option NetRecord) {net : Net} → ((r s : NetRecord) → a ≡ some r → b ≡ some s → NetOf net (r .ties ++ s .ties)) → NetKept net (behind a b)
 unfolding behind
 both none b h = net-unrecorded
 both (some r) none h = net-unrecorded
 both (some r) (some s) h = net-recorded _ (h r s refl refl)
 
 -- starting
-started-kept : (net : Net) → startRefusal net ≡ 0 → NetKept (netOf (length (net .parents)) []) (some (record { edges = [] }))
+started-kept : (net : Net) → startRefusal net ≡ 0 → NetKept (netOf (length (net .parents)) []) (some (record { ties = [] }))
 started-kept net z =
     let s = startable net z in
     net-recorded _ (of-net (record { some = s .some; few = s .few }) (proper-nil (length (net .parents))))
 
 -- adding
-added-kept : (net : Net) (noted : Option NetRecord) (xs : List ℕ) (work : Work) → NetKept net noted → addRefusal (withWork net work) xs ≡ 0 → NetKept (grown net (edges xs)) (behind noted (some (record { edges = edges xs })))
+added-kept : (net : Net) (noted : Option NetRecord) (xs : List ℕ) (work : Work) → NetKept net noted → addRefusal (withWork net work) xs ≡ 0 → NetKept (grown net (ties xs)) (behind noted (some (record { ties = ties xs })))
 added-kept net noted xs work v z = both noted (some new) go
   where
     new : NetRecord
-    new = record { edges = edges xs }
+    new = record { ties = ties xs }
 
-    go : (r s : NetRecord) → noted ≡ some r → some new ≡ some s → NetOf (grown net (edges xs)) (r .edges ++ s .edges)
+    go : (r s : NetRecord) → noted ≡ some r → some new ≡ some s → NetOf (grown net (ties xs)) (r .ties ++ s .ties)
     go r s e f =
         let g = v .kept r e in
         let a = addable (withWork net work) xs z in
         let same : new ≡ s = cc in
-        let proper : Proper (g .vertices) (edges xs) = subst (λ (n : ℕ). Proper n (edges xs)) (parents-length g) (faultless-proper (length (net .parents)) (edges xs) (a .faultless)) in
-        subst (λ (t : NetRecord). NetOf (grown net (edges xs)) (r .edges ++ t .edges)) same
+        let proper : Proper (g .vertices) (withoutRows (ties xs)) = subst (λ (n : ℕ). Proper n (withoutRows (ties xs))) (parents-length g) (faultless-proper (length (net .parents)) (ties xs) (a .faultless)) in
+        subst (λ (t : NetRecord). NetOf (grown net (ties xs)) (r .ties ++ t .ties)) same
         (record {
           vertices = g .vertices;
           count = g .count;
-          proper = proper-append (g .proper) proper;
-          is = ap (λ (x : Net). grown x (edges xs)) (g .is) ∙ grown-net (edges xs) (small (g .count)) (g .proper);
+          proper = both-proper (r .ties) (ties xs) (g .proper) proper;
+          is = ap (λ (x : Net). grown x (ties xs)) (g .is) ∙ grown-net (r .ties) (ties xs) (small (g .count)) (g .proper);
         })
 
 -- joining
 joined-kept : (net other : Net) (noted second : Option NetRecord) (work : Work) → NetKept net noted → NetKept other second → joinRefusal (withWork net work) other ≡ 0 → NetKept (joined net other) (behind noted second)
 joined-kept net other noted second work v u z = both noted second go
   where
-    go : (r s : NetRecord) → noted ≡ some r → second ≡ some s → NetOf (joined net other) (r .edges ++ s .edges)
+    go : (r s : NetRecord) → noted ≡ some r → second ≡ some s → NetOf (joined net other) (r .ties ++ s .ties)
     go r s e f =
         let g = v .kept r e in
         let h = u .kept s f in
         let a = joinable (withWork net work) other z in
         let same : h .vertices ≡ g .vertices = sym (parents-length h) ∙ a .same ∙ parents-length g in
-        let proper : Proper (g .vertices) (s .edges) = subst (λ (n : ℕ). Proper n (s .edges)) same (h .proper) in
+        let proper : Proper (g .vertices) (withoutRows (s .ties)) = subst (λ (n : ℕ). Proper n (withoutRows (s .ties))) same (h .proper) in
         record {
           vertices = g .vertices;
           count = g .count;
-          proper = proper-append (g .proper) proper;
-          is = ap₂ joined (g .is) (h .is ∙ ap (λ (n : ℕ). netOf n (s .edges)) same) ∙ joined-net (s .edges) (small (g .count)) (g .proper) proper;
+          proper = both-proper (r .ties) (s .ties) (g .proper) proper;
+          is = ap₂ joined (g .is) (h .is ∙ ap (λ (n : ℕ). netOf n (s .ties)) same) ∙ joined-net (r .ties) (s .ties) (small (g .count)) (g .proper) proper;
         }
 
 -- saving
@@ -196,10 +204,10 @@ loaded-kept bytes (some r) v =
       vertices = g .vertices;
       count = g .count;
       proper = g .proper;
-      is = ap fileNet (g .is) ∙ back (r .edges) g;
+      is = ap fileNet (g .is) ∙ back (r .ties) g;
     })
   where
-    back : (ts : List Edge) (g : FileOf bytes ts) → fileNet (linkFile (netOf (g .vertices) ts)) ≡ netOf (g .vertices) ts
+    back : (ts : List Tie) (g : FileOf bytes ts) → fileNet (linkFile (netOf (g .vertices) ts)) ≡ netOf (g .vertices) ts
     back ts g =
         let of : Net = netOf (g .vertices) ts in
         let few : length (of .parents) ≤ maxVertices = omega (arith, net-lengths (g .vertices) ts .0, g .count .few) in
@@ -216,12 +224,12 @@ note-passed b false = refl
 pub step-keeps : {w : World} {b : Book} (c : Call) → Kept w b → Kept (step w c .world) (note b (entry c) (step w c .accepted))
 unfolding step stepped entry decided enter startOutcome addOutcome joinOutcome saveOutcome readOutcome
 step-keeps {w} {b} (start i) v =
-    net-written tt v i (startRefusal (w .nets i)) (netOf (length (w .nets i .parents)) []) (some (record { edges = [] })) (started i) refl (started-kept (w .nets i))
+    net-written tt v i (startRefusal (w .nets i)) (netOf (length (w .nets i .parents)) []) (some (record { ties = [] })) (started i) refl (started-kept (w .nets i))
 step-keeps {w} {b} (add i xs work) v =
-    let m = moved (w .nets i) (grown (w .nets i) (edges xs)) in
+    let m = moved (w .nets i) (grown (w .nets i) (ties xs)) in
     subst (λ (x : Net). Kept (withNet w i x) (note b (added i xs) (isAccepted (judged (addRefusal (withWork (w .nets i) work) xs) m))))
-    (sym (unless-part (λ (g : NetWithWork). g .net) (addRefusal (withWork (w .nets i) work) xs) (withWork (w .nets i) work) (withWork (grown (w .nets i) (edges xs)) (cleared work))))
-    (net-written m v i (addRefusal (withWork (w .nets i) work) xs) (grown (w .nets i) (edges xs)) (behind (b .nets i) (some (record { edges = edges xs }))) (added i xs) refl
+    (sym (unless-part (λ (g : NetWithWork). g .net) (addRefusal (withWork (w .nets i) work) xs) (withWork (w .nets i) work) (withWork (grown (w .nets i) (ties xs)) (cleared work))))
+    (net-written m v i (addRefusal (withWork (w .nets i) work) xs) (grown (w .nets i) (ties xs)) (behind (b .nets i) (some (record { ties = ties xs }))) (added i xs) refl
     (added-kept (w .nets i) (b .nets i) xs work (v .nets i)))
 step-keeps {w} {b} (join i j different work) v =
     let m = moved (w .nets i) (joined (w .nets i) (w .nets j)) in

@@ -4,7 +4,7 @@ use mathlib.Core.Path.{_≡_, sym, ap, subst, _∙_}
 use mathlib.Core.List.{List, [], _∷_}
 use Prim.Native.Nat.{ℕ, _*_}
 use lib.ListN.{length}
-use Rattle.game.specs.Edge.{Edge, edges}
+use Rattle.game.specs.Edge.{Tie, withoutRows, ties, edges}
 use Rattle.game.specs.Net.{Net, netOf}
 use Rattle.game.proofs.Order.{net-order}
 use Rattle.linkfile.proofs.RoundTrip.{link-file-length}
@@ -17,40 +17,42 @@ use Rattle.separate.proofs.Separation.{separate-separates}
 use Rattle.history.specs.World.{World, Call}
 use Rattle.history.specs.Book.{Book, blank}
 use Rattle.history.specs.History.{worldAfter, bookAfter, Reports, Separated, NetHolds, FileHolds, Holds}
-use Rattle.history.proofs.Steps.{NetOf, FileOf, Kept, net-unrecorded, file-unrecorded, net-lengths, parents-length, step-keeps}
+use Rattle.history.proofs.Steps.{NetOf, FileOf, Kept, net-unrecorded, file-unrecorded, net-lengths, parents-length, net-parents, step-keeps}
 
 -- a report that is lent the list of a net
-reports : (net : Net) (ts : List Edge) (B k : ℕ) (xs : List ℕ) (tables : Lent) → net ≡ netOf (length (net .parents)) ts → edges xs ≡ ts → Reports net ts B k (reportOutcome net B k xs tables .verdict)
+reports : (net : Net) (ts : List Tie) (B k : ℕ) (xs : List ℕ) (tables : Lent) → net ≡ netOf (length (net .parents)) ts → ties xs ≡ ts → Reports net (withoutRows ts) B k (reportOutcome net B k xs tables .verdict)
+unfolding edges
 reports net ts B k xs tables is e =
-    subst (λ (us : List Edge). Reports net us B k (reportOutcome net B k xs tables .verdict)) e
+    subst (λ (us : List Tie). Reports net (withoutRows us) B k (reportOutcome net B k xs tables .verdict)) e
     (record {
       never-23 = own-not-23 net B k xs tables (is ∙ ap (netOf (length (net .parents))) (sym e));
       answers = accepted-totals net B k xs tables;
     })
 
 -- two vertices separated by a call that is lent the list of a net
-separated : (net : Net) (ts : List Edge) (a b : ℕ) (xs : List ℕ) (tables : SeparateTables) → net ≡ netOf (length (net .parents)) ts → edges xs ≡ ts → Separated net ts a b (separateOutcome net a b xs tables)
+separated : (net : Net) (ts : List Tie) (a b : ℕ) (xs : List ℕ) (tables : SeparateTables) → net ≡ netOf (length (net .parents)) ts → ties xs ≡ ts → Separated net (withoutRows ts) a b (separateOutcome net a b xs tables)
+unfolding edges
 separated net ts a b xs tables is e =
-    subst (λ (us : List Edge). Separated net us a b (separateOutcome net a b xs tables)) e
+    subst (λ (us : List Tie). Separated net (withoutRows us) a b (separateOutcome net a b xs tables)) e
     (record {
       never-23 = separate-not-23 net a b xs tables (is ∙ ap (netOf (length (net .parents))) (sym e));
       separates = separate-separates net a b xs tables;
     })
 
 -- what is kept is what is claimed
-net-holds : {net : Net} {ts : List Edge} → NetOf net ts → NetHolds net ts
+net-holds : {net : Net} {ts : List Tie} → NetOf net ts → NetHolds net ts
 net-holds {net} {ts} g = record {
   is = of ts (g .is);
   any-order = λ us s. of us (g .is ∙ net-order (g .vertices) s);
-  volume-bound = volume-bound net (g .count .few) (g .proper) (g .is);
+  volume-bound = volume-bound net (g .count .few) (g .proper) (net-parents g);
   reports = λ B k xs tables e. reports net ts B k xs tables (of ts (g .is)) e;
   separates = λ a b xs tables e. separated net ts a b xs tables (of ts (g .is)) e;
 }
   where
-    of : (us : List Edge) → net ≡ netOf (g .vertices) us → net ≡ netOf (length (net .parents)) us
+    of : (us : List Tie) → net ≡ netOf (g .vertices) us → net ≡ netOf (length (net .parents)) us
     of us e = e ∙ ap (λ (n : ℕ). netOf n us) (sym (parents-length g))
 
-file-holds : {bytes : List ℕ} {ts : List Edge} → FileOf bytes ts → FileHolds bytes ts
+file-holds : {bytes : List ℕ} {ts : List Tie} → FileOf bytes ts → FileHolds bytes ts
 file-holds {bytes} {ts} g =
     let n = g .vertices in
     let l = net-lengths n ts in

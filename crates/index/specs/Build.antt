@@ -8,13 +8,13 @@ use mathlib.Core.List.{List, [], _∷_, _++_}
 use Prim.Native.Nat.{ℕ, _*_}
 use lib.Dec.{eqb, ltb}
 use lib.ListN.{length}
-use Rattle.game.specs.Edge.{Edge, edges}
+use Rattle.game.specs.Edge.{Edge, ties, edges}
 use Rattle.refusal.specs.Limits.{maxEdges}
 use Rattle.refusal.specs.Refusal.{given, first, badCount, wrongLength, notWhole, firstFault}
 use Rattle.refusal.specs.Outcome.{Done, done}
 use Rattle.index.specs.Index.{Index, vertices, indexOf}
 
--- in document 01's order; the neighbours have two entries to an edge, because it stands in two runs
+-- in document 01's order; the neighbours have two entries to a tie, because it stands in two runs
 unfoldable pub indexRefusal : Index → (old added : List ℕ) → ℕ
 indexRefusal t old added =
     let both : List Edge = edges old ++ edges added in
@@ -24,7 +24,7 @@ indexRefusal t old added =
     ∷ given (notWhole old) 2
     ∷ given (notWhole added) 2
     ∷ given (wrongLength (length (t .neighbours)) (2 * length both)) 2
-    ∷ firstFault (vertices t) both
+    ∷ firstFault (vertices t) (ties old ++ ties added)
     ∷ given (ltb maxEdges (length both)) 20
     ∷ [])
 

@@ -6,7 +6,7 @@ use mathlib.Core.List.{List, [], _∷_, _++_, append-assoc, append-nil}
 use Prim.Native.Nat.{ℕ, _+_, _≤_, _<_, min}
 use native.Mathlib.Omega.{arith}
 use lib.ListN.{length, getD, set, drop, length-set, drop-of-length-le}
-use Rattle.game.specs.Edge.{Edge, _─_, edges}
+use Rattle.game.specs.Edge.{Edge, _─_, ties, edges}
 use Rattle.game.specs.Game.{absent, forest}
 use Rattle.game.specs.Tree.{links}
 use Rattle.game.proofs.Conn.{within-refl, within-trans, within-both}
@@ -14,10 +14,10 @@ use Rattle.game.proofs.Forest.{forest-same, forest-unique}
 use Rattle.game.proofs.Sound.{Sound, sound-true, true-sound, sound-parent, sound-set, getD-default}
 use Rattle.game.proofs.Within.{within-linked}
 use Rattle.game.proofs.Order.{same-linked}
-use Rattle.game.specs.Graph.{flip, nil}
-use Rattle.refusal.specs.Refusal.{fault, firstFault}
-use Rattle.refusal.proofs.Fault.{faultless, first-fault-on}
-use Rattle.refusal.proofs.First.{first-none}
+use Rattle.game.specs.Graph.{Proper, flip, nil}
+use Rattle.game.proofs.Proper.{proper-head, proper-tail}
+use Rattle.refusal.specs.Refusal.{firstFault}
+use Rattle.refusal.proofs.Fault.{list-proper}
 use Rattle.insert.specs.Putting.{Alike, pending, Table, Exchanged, Lowers, PutEdge, PutUpTo}
 use Rattle.insert.proofs.Lowered.{lowers-set}
 use Rattle.insert.proofs.Exchanges.{exchange-root, exchange-on, exchange-swap, spent-alike}
@@ -132,28 +132,23 @@ put-turned {p} {a} {b} x = record { same = x .same; sound = x .sound; quick = x 
     }
 
 -- the list, with the loop at edge i
-pub put-none : {p xs : List ℕ} → Table p → firstFault (length p) (edges xs) ≡ 0 → PutUpTo p xs p 0
-put-none {p} {xs} t f = record { same = refl; sound = t .sound; faultless = f; inside = omega arith; alike = alike-refl (links p ++ edges xs) }
+pub put-none : {p xs : List ℕ} → Table p → firstFault (length p) (ties xs) ≡ 0 → PutUpTo p xs p 0
+put-none {p} {xs} t f = record { same = refl; sound = t .sound; proper = list-proper (length p) xs f; inside = omega arith; alike = alike-refl (links p ++ edges xs) }
 
 module _ {p xs q : List ℕ} {i a b : ℕ} (u : PutUpTo p xs q i) (h : i < length (edges xs)) (here : drop i (edges xs) ≡ (a ─ b) ∷ drop (i + 1) (edges xs)) where
-  -- the edge that stands there has no fault, and neither have those behind it
-  split : (fault (length p) (a ─ b) ≡ 0) × (firstFault (length p) (drop (i + 1) (edges xs)) ≡ 0)
-  unfolding firstFault
-  split =
-      let f = first-none (fault (length p) (a ─ b)) (firstFault (length p) (drop (i + 1) (edges xs)) ∷ []) (rw here at (u .faultless)) in
-      (f .0, sym (first-fault-on (length p) (a ─ b) (drop (i + 1) (edges xs)) (f .0)) ∙ (rw here at (u .faultless)))
+  -- the edge that stands there is proper, and so are those behind it
+  left : Proper (length p) ((a ─ b) ∷ drop (i + 1) (edges xs))
+  left = rw here at (u .proper)
 
   pub put-ends : (a < length q) × (b < length q) × (a ≡ b → ⊥)
-  put-ends =
-      let k = faultless (length p) a b (split .0) in
-      (omega (arith, k .0, u .same), omega (arith, k .1, u .same), k .2)
+  put-ends = let (ha, hb, d) = proper-head left in (omega (arith, ha, u .same), omega (arith, hb, u .same), d)
 
   pub put-next : {q′ : List ℕ} {steps : ℕ} → PutEdge q (a ─ b) q′ steps → PutUpTo p xs q′ (i + 1)
   unfolding pending
   put-next {q′} x = record {
     same = x .same ∙ u .same;
     sound = x .sound;
-    faultless = split .1;
+    proper = proper-tail left;
     inside = omega arith;
     alike = alike-trans (alike-more (drop (i + 1) (edges xs)) (x .alike)) (rw (append-assoc) (rw here at (u .alike)));
   }

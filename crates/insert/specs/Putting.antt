@@ -6,10 +6,10 @@ use mathlib.Core.List.{List, [], _∷_, _++_}
 use Prim.Native.Nat.{ℕ, _+_, _≤_, _<_}
 use lib.ListN.{length, drop}
 use Rattle.game.specs.Edge.{Edge, _─_, edges}
+use Rattle.game.specs.Graph.{Proper}
 use Rattle.game.specs.Tree.{links, sound}
 use Rattle.game.proofs.Conn.{Within}
 use Rattle.refusal.specs.Limits.{maxVertices}
-use Rattle.refusal.specs.Refusal.{firstFault}
 use Rattle.moved.specs.Steps.{Fallen}
 
 -- two graphs join the same vertices at the same heights, so their forests are the same
@@ -50,6 +50,6 @@ pub record PutEdge (p : List ℕ) (e : Edge) (p′ : List ℕ) (steps : ℕ) : T
 pub record PutUpTo (p xs p′ : List ℕ) (i : ℕ) : Type 0 where
   pub same : length p′ ≡ length p
   pub sound : sound p′ ≡ true
-  pub faultless : firstFault (length p) (drop i (edges xs)) ≡ 0
+  pub proper : Proper (length p) (drop i (edges xs))
   pub inside : i ≤ length (edges xs)
   pub alike : Alike (links p′ ++ drop i (edges xs)) (links p ++ edges xs)

@@ -1,18 +1,16 @@
-// A list of edges taken into a net: the forest and the weights.
+// A list of ties taken into a net: the forest and the weights.
 use crate::growing;
 use crate::inserting;
 ghost use mathlib.Core.Path.{_≡_};
-ghost use mathlib.Core.Bool.{true, false};
-ghost use lib.ListN.{length};
-ghost use Rattle.game.specs.Edge.{edges as edgesOf};
-ghost use Rattle.bucket.specs.Ends.{tallied};
-ghost use Rattle.bucket.specs.PlacingSteps.{upperCounts};
+ghost use mathlib.Core.Bool.{true};
+ghost use Rattle.game.specs.Edge.{ties as tiesOf};
+ghost use Rattle.bucket.specs.Ends.{weighed};
 ghost use Rattle.moved.specs.Steps.{Differ};
-ghost use Rattle.insert.specs.Extending.{Extendable, Extends, Weighable};
+ghost use Rattle.insert.specs.Extending.{Extendable, Extends, Weighable, Counted};
 
-// Makes the parents those of the elimination game on the old links and the edges of the list, raises the weight of each edge's lower
-// end, and clears the work tables. Answers the lowest vertex that moved. The flag says that the edges are counted by upper end: then the
-// list is grown with the whole forest.
+// Makes the parents those of the elimination game on the old links and the edges of the list, raises the weight of each tie's lower end
+// by its rows, and clears the work tables. Answers the lowest vertex that moved. The flag says that the list is counted by upper end, and
+// its rows charged to the table of jumps: then it is grown with the whole forest.
 pub fn extend(
     parents: &mut [u32],
     weights: &mut [u32],
@@ -22,12 +20,12 @@ pub fn extend(
     lower: &mut [u32],
     counted: bool,
 ) -> u32
-    requires { ⌜ Extendable (now parents) (now edges) (now ends) (now jump) (now lower) × Weighable (now parents) (now weights) (now lower) × (counted ≡ true → now ends ≡ upperCounts (length (now parents)) (edgesOf (now edges))) ⌝ }
-    ensures { λ r. ⌜ Extends (now (parents .entry)) (now (edges .entry)) (now (ends .entry)) (now (jump .entry)) (now (lower .entry)) (now (parents .exit)) (now (ends .exit)) (now (jump .exit)) (now (lower .exit)) × (now (weights .exit) ≡ tallied false (edgesOf (now (edges .entry))) (now (weights .entry))) × Differ (now (parents .entry)) (now (parents .exit)) r ⌝ }
+    requires { ⌜ Extendable (now parents) (now edges) (now ends) (now jump) (now lower) × Weighable (now parents) (now weights) (now edges) × (counted ≡ true → Counted (now parents) (now edges) (now ends) (now jump)) ⌝ }
+    ensures { λ r. ⌜ Extends (now (parents .entry)) (now (edges .entry)) (now (ends .entry)) (now (jump .entry)) (now (lower .entry)) (now (parents .exit)) (now (ends .exit)) (now (jump .exit)) (now (lower .exit)) × (now (weights .exit) ≡ weighed (tiesOf (now (edges .entry))) (now (weights .entry))) × Differ (now (parents .entry)) (now (parents .exit)) r ⌝ }
 {
     if counted {
         return growing::grow_counted(parents, weights, edges, ends, jump, lower);
     }
-    bucket::tally(edges, false, weights);
+    bucket::charge(edges, weights);
     inserting::insert(parents, edges, ends, jump, lower)
 }

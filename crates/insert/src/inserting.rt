@@ -37,6 +37,6 @@ pub fn insert(
         return progress.moved;
     }
     bucket::file_edges(parents, edge::from(edges, at), ends, lower);
-    let grown = growth::regrow(parents, ends, jump, lower);
+    let grown = growth::grow(parents, true, ends, jump, lower);
     table::smaller(progress.moved, grown)
 }

@@ -3,7 +3,7 @@ use net::Net;
 ghost use mathlib.Core.Path.{_≡_};
 ghost use Prim.Native.Nat.{_+_, _≤_, _<_};
 ghost use lib.ListN.{length};
-ghost use Rattle.game.specs.Edge.{edges as edgesOf, _─_};
+ghost use Rattle.game.specs.Edge.{ties as tiesOf, _─_};
 ghost use Rattle.refusal.specs.Limits.{maxVertices};
 ghost use Rattle.refusal.specs.Refusal.{firstFault};
 ghost use Rattle.moved.specs.Steps.{Fallen};
@@ -90,7 +90,7 @@ fn put_edge(parents: &mut [u32], a: u32, b: u32, moved: u32) -> Progress
 // Puts in the edges of a list one by one, as long as fewer exchanges were made than the budget allows. Answers how many of them are in,
 // and the lowest vertex that moved.
 pub fn put_some(parents: &mut [u32], edges: &[u32], budget: usize) -> Progress
-    requires { ⌜ Table (now parents) × (firstFault (length (now parents)) (edgesOf (now edges)) ≡ 0) × (budget ≤ maxVertices) ⌝ }
+    requires { ⌜ Table (now parents) × (firstFault (length (now parents)) (tiesOf (now edges)) ≡ 0) × (budget ≤ maxVertices) ⌝ }
     ensures { λ r. ⌜ PutUpTo (now (parents .entry)) (now (edges .entry)) (now (parents .exit)) (r .count) × Fallen (now (parents .entry)) (now (parents .exit)) (r .moved) ⌝ }
 {
     let m = edge::count(edges);

@@ -2,27 +2,11 @@
 use join_refusal::join_refusal;
 use moved::GrowthAnswer;
 ghost use mathlib.Core.Path.{_≡_};
-ghost use mathlib.Core.List.{zipWith};
-ghost use Prim.Native.Nat.{_+_, _^_, _<_};
-ghost use lib.ListN.{length};
 ghost use Rattle.game.specs.Net.{net};
 ghost use Rattle.growth.specs.Work.{withWork, workOf};
-ghost use Rattle.game.specs.Table.{sum};
 ghost use Rattle.moved.specs.Answer.{verdict};
 ghost use Rattle.refusal.specs.Outcome.{ended};
 ghost use Rattle.join.specs.Join.{joinOutcome};
-
-// Adds each entry of a second table to a first.
-fn add_table(table: &mut [u32], other: &[u32])
-    requires { ⌜ (length (now table) ≡ length (now other)) × (sum (now table) + sum (now other) < 2 ^ 32) ⌝ }
-    ensures { λ _. ⌜ now (table .exit) ≡ zipWith _+_ (now (table .entry)) (now (other .entry)) ⌝ }
-{
-    let mut i = 0;
-    while i < other.len() {
-        table[i] += other[i];
-        i += 1;
-    }
-}
 
 // Joins a second net into a first: the parents become those of the elimination game on the links of both, and the weights are
 // summed. The work tables take n, n and 2 n entries; they end as zeros. Answers where the first net's forest moved.
@@ -52,8 +36,8 @@ pub fn join(
     if code != 0 {
         return GrowthAnswer::Refused(code);
     }
-    add_table(weights, other_weights);
+    table::add_all(weights, other_weights);
     bucket::file_links(parents, other_parents, ends, lower);
-    let lowest = growth::regrow(parents, ends, jump, lower);
+    let lowest = growth::grow(parents, true, ends, jump, lower);
     moved::accepted(lowest)
 }

@@ -21,7 +21,7 @@ impl Net {
     pub const ABSENT: u32 = 0xFFFF_FFFF;
 
     // The largest total weight.
-    pub const MAX_TOTAL: u64 = 16_000_000;
+    pub const MAX_TOTAL: u64 = 96_000_000;
 
     pub fn new(total: u64) -> Net
         ensures { λ r. ⌜ r .total ≡ total ⌝ }

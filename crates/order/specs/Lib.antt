@@ -1,4 +1,3 @@
 -- Orders and their inverses, and the two means of going by one.
-pub mod LookUp
 pub mod Order
 pub mod VertexSet

@@ -1,15 +1,13 @@
-// An elimination order: whether it is a permutation of the vertices, its inverse, and numbers replaced by their ranks.
+// An elimination order: whether it is a permutation of the vertices, and its inverse.
 use table::wide;
 ghost use mathlib.Core.Path.{_≡_};
 ghost use mathlib.Core.Bool.{false};
 ghost use Prim.Native.Nat.{_<_, _≤_};
 ghost use lib.Dec.{eqb};
 ghost use lib.ListN.{length};
-ghost use Rattle.game.specs.Table.{Below};
 ghost use Rattle.refusal.specs.Limits.{maxVertices};
 ghost use Rattle.order.specs.Order.{badOrder, inverseOf};
 ghost use Rattle.order.specs.VertexSet.{setWords, bitAt, setBit};
-ghost use Rattle.order.specs.LookUp.{lookedUp};
 
 // A set of vertices has a bit for each number, 32 to a word.
 const WORDS: usize = 32_768;
@@ -63,17 +61,5 @@ pub fn invert(order: &[u32], inverse: &mut [u32])
     while r < order.len() {
         inverse[wide(order[r])] = r as u32;
         r += 1;
-    }
-}
-
-// Writes for each number what the table has for it.
-pub fn look_up(table: &[u32], numbers: &[u32], out: &mut [u32])
-    requires { ⌜ (length (now out) ≡ length (now numbers)) × Below (length (now table)) (now numbers) ⌝ }
-    ensures { λ _. ⌜ now (out .exit) ≡ lookedUp (now (table .entry)) (now (numbers .entry)) ⌝ }
-{
-    let mut i = 0;
-    while i < numbers.len() {
-        out[i] = table[wide(numbers[i])];
-        i += 1;
     }
 }

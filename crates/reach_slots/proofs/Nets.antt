@@ -89,7 +89,7 @@ lower-count-order : {es fs : List Edge} → Same es fs → (x : ℕ) → lowerCo
 unfolding lowerCount count lower
 lower-count-order nil x = refl
 lower-count-order (keep {e = e} s) x = ap (λ (k : ℕ). one-if (eqb (lower e) x) + k) (lower-count-order s x)
-lower-count-order (flip {a = a} {b = b} s) x = rw (lower-count-order s x, min-comm a b)
+lower-count-order (flip {e = a ─ b} s) x = rw (lower-count-order s x, min-comm a b)
 lower-count-order (swap {e = e} {f = f} {es = es}) x = add-left-comm (one-if (eqb (lower e) x)) (one-if (eqb (lower f) x)) (lowerCount es x)
 lower-count-order (trans s t) x = lower-count-order s x ∙ lower-count-order t x
 

@@ -12,7 +12,8 @@ use Rattle.refusal.specs.Refusal.{given, first, badCount, wrongLength}
 use Rattle.refusal.specs.Outcome.{Done, done}
 use Rattle.records.specs.LinkFile.{fileNet}
 
--- 7: "a link record's parent is neither absent nor in rank+1 to n−1"; 20: "the total after .. reading .. is above 16,000,000"
+-- 7: "a link record's parent is neither absent nor in rank+1 to n−1"; 20: "the total after .. reading .. is above 16,000,000",
+-- which Paper 6 of document 02 makes 96,000,000
 unfoldable pub unfit : Net → ℕ
 unfit net = first (given (not (sound (net .parents))) 7 ∷ given (ltb maxTotal (total net)) 20 ∷ [])
 

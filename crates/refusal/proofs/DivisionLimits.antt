@@ -2,7 +2,7 @@
 -- Assumes nothing.
 use mathlib.Core.Path.{_≡_, sym, _∙_}
 use mathlib.Core.Logic.{by-cases}
-use mathlib.Core.Bool.{true, false, true≢false}
+use mathlib.Core.Bool.{true, false, _||_, true≢false}
 use mathlib.Core.List.{List, [], _∷_}
 use Prim.Native.Nat.{ℕ, zero, suc, _+_, _≤_, _<_}
 use native.Mathlib.Numerals.{add-one}
@@ -13,7 +13,8 @@ use lib.ListN.{length, getD, drop, drop-of-length-le}
 use lib.Seq.{drop-cons}
 use borrow.Author.Tests.{lt-ltb, le-ltb, le-leb, lt-leb, ltb-false}
 use Rattle.game.proofs.Bools.{or-neither}
-use Rattle.refusal.specs.DivisionLimits.{maxLimit, maxBlocks, outside, badLimits, tooHeavy}
+use Rattle.refusal.specs.Limits.{outside}
+use Rattle.refusal.specs.DivisionLimits.{maxLimit, maxBlocks, badLimits, tooHeavy}
 
 module _ (most v : ℕ) where
   pub outside-low : v < 1 → outside most v ≡ true
@@ -27,7 +28,17 @@ module _ (most v : ℕ) where
       (λ l. rw (le-leb 1 v h, le-leb v most l, le-ltb most v l))
       (λ (l : v ≤ most → ⊥). rw (le-leb 1 v h, lt-leb v most (omega arith), lt-ltb most v (omega arith)))
 
-  outside-not : outside most v ≡ false → (1 ≤ v) × (v ≤ most)
+  -- as one test without a branch
+  pub outside-told : (ltb v 1 || ltb most v) ≡ outside most v
+  outside-told =
+      by-cases (decLe 1 v)
+      (λ (l : 1 ≤ v). rw (le-ltb v 1 l) (sym (outside-high l)))
+      (λ (o : 1 ≤ v → ⊥). rw (lt-ltb v 1 (omega arith)) (sym (outside-low (omega arith))))
+
+  pub outside-within : 1 ≤ v → v ≤ most → outside most v ≡ false
+  outside-within h l = outside-high h ∙ le-ltb most v l
+
+  pub outside-not : outside most v ≡ false → (1 ≤ v) × (v ≤ most)
   outside-not e =
       by-cases (decLe 1 v)
       (λ (l : 1 ≤ v). (l, ltb-false most v (sym (outside-high l) ∙ e)))

@@ -98,20 +98,20 @@ pub length-right : (has needs : ℕ) → wrongLength has needs ≡ false → has
 unfolding wrongLength
 length-right has needs e = eqb-true has needs (not-false (eqb has needs) e)
 
--- a list of even length
-pub even-list : (xs : List ℕ) → length xs % 2 ≡ 0 → notWhole xs ≡ false
+-- a list of whole ties
+pub whole-list : (xs : List ℕ) → length xs % 3 ≡ 0 → notWhole xs ≡ false
 unfolding notWhole
-even-list xs e = rw (eq-eqb (length xs % 2) 0 e)
+whole-list xs e = rw (eq-eqb (length xs % 3) 0 e)
 
-pub list-even : (xs : List ℕ) → notWhole xs ≡ false → length xs % 2 ≡ 0
+pub list-whole : (xs : List ℕ) → notWhole xs ≡ false → length xs % 3 ≡ 0
 unfolding notWhole
-list-even xs e = eqb-true (length xs % 2) 0 (not-false (eqb (length xs % 2) 0) e)
+list-whole xs e = eqb-true (length xs % 3) 0 (not-false (eqb (length xs % 3) 0) e)
 
--- a list of even length before another
-pub odd-append : (xs ys : List ℕ) → length xs % 2 ≡ 0 → notWhole (xs ++ ys) ≡ notWhole ys
+-- a list of whole ties before another
+pub whole-append : (xs ys : List ℕ) → length xs % 3 ≡ 0 → notWhole (xs ++ ys) ≡ notWhole ys
 unfolding notWhole
-odd-append xs ys h =
-    let e : length (xs ++ ys) % 2 ≡ length ys % 2 = omega (arith, length-append xs ys) in
+whole-append xs ys h =
+    let e : length (xs ++ ys) % 3 ≡ length ys % 3 = omega (arith, length-append xs ys) in
     rw e refl
 
 -- a count that is not refused

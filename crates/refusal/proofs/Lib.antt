@@ -3,5 +3,6 @@ pub mod DivisionLimits
 pub mod Ends
 pub mod Fault
 pub mod First
+pub mod ListRefusal
 pub mod Never
 pub mod Sweep

@@ -7,8 +7,8 @@ use mathlib.Core.List.{List, [], _∷_}
 use Prim.Native.Nat.{ℕ, zero, suc, _%_}
 use lib.Dec.{eqb, leb, ltb}
 use lib.ListN.{length}
-use Rattle.game.specs.Edge.{Edge, _─_, stride}
-use Rattle.refusal.specs.Limits.{maxVertices}
+use Rattle.game.specs.Edge.{Edge, _─_, Tie, stride, ties}
+use Rattle.refusal.specs.Limits.{maxVertices, maxEdges, maxRows, outside}
 
 -- the number, given exactly if the test holds
 unfoldable pub given : Bool → ℕ → ℕ
@@ -34,15 +34,24 @@ badCount n = eqb n 0 || ltb maxVertices n
 unfoldable pub wrongLength : ℕ → ℕ → Bool
 wrongLength has needs = not (eqb has needs)
 
--- 2 too: "a tie list of odd length": the numbers do not make whole edges
+-- 2 too: document 02, Paper 6: "a length that isn't a multiple of three is 2": the numbers do not make whole ties
 unfoldable pub notWhole : List ℕ → Bool
 notWhole xs = not (eqb (length xs % stride) 0)
 
 -- 4: "a tie names n or more"; 5: "both ends of a tie are one mark"; "4 before 5"
-unfoldable pub fault : ℕ → Edge → ℕ
-fault n (a ─ b) = cond (leb n a || leb n b) 4 (cond (eqb a b) 5 0)
+unfoldable pub edgeFault : ℕ → Edge → ℕ
+edgeFault n (a ─ b) = cond (leb n a || leb n b) 4 (cond (eqb a b) 5 0)
 
--- "4 or 5 at the first faulty tie"
-unfoldable pub firstFault : ℕ → List Edge → ℕ
+-- 32: Paper 6: "rows not 1 to 6; found at the first faulty tie, after 5"
+unfoldable pub fault : ℕ → Tie → ℕ
+fault n t = first (edgeFault n (t .edge) ∷ given (outside maxRows (t .rows)) 32 ∷ [])
+
+-- "4 or 5 at the first faulty tie", or 32
+unfoldable pub firstFault : ℕ → List Tie → ℕ
 firstFault n [] = 0
-firstFault n (e ∷ es) = first (fault n e ∷ firstFault n es ∷ [])
+firstFault n (t ∷ ts) = first (fault n t ∷ firstFault n ts ∷ [])
+
+-- of a list that is added, or given as a net's own: its first fault, then 20. Paper 6: "a list is still at most 16,000,000 ties, and a
+-- longer one, added or reported, is 20"
+unfoldable pub listRefusal : ℕ → List ℕ → ℕ
+listRefusal n xs = first (firstFault n (ties xs) ∷ given (ltb maxEdges (length (ties xs))) 20 ∷ [])

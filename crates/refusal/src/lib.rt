@@ -2,15 +2,16 @@
 mod limits;
 
 pub use limits::MAX_BLOCKS;
+pub use limits::MAX_ROWS;
 pub use limits::bad_limits;
+pub use limits::bad_rows;
 pub use limits::too_heavy;
 use table::wide;
 ghost use mathlib.Core.Path.{_≡_};
 ghost use mathlib.Core.Bool.{true};
 ghost use Prim.Native.Nat.{_+_};
-ghost use Rattle.game.specs.Edge.{edges as edgesOf, _─_};
-ghost use Rattle.refusal.specs.Limits.{maxVertices, maxTotal, maxEdges};
-ghost use Rattle.refusal.specs.Refusal.{badCount, notWhole, fault, firstFault};
+ghost use Rattle.game.specs.Edge.{ties as tiesOf, _─_, tieOf};
+ghost use Rattle.refusal.specs.Refusal.{badCount, notWhole, fault, firstFault, listRefusal};
 ghost use Rattle.refusal.specs.Verdict.{number};
 ghost use Rattle.refusal.specs.Answer.{verdict};
 ghost use Rattle.refusal.specs.Steps.{isFaulty, someFault};
@@ -18,7 +19,7 @@ ghost use Rattle.refusal.specs.Steps.{isFaulty, someFault};
 // The largest number of vertices of a net.
 pub const MAX_VERTICES: usize = 1_000_000;
 
-// The largest number of edges in a list that a call takes whole.
+// The largest number of ties in a list that a call takes whole.
 pub const MAX_EDGES: usize = 16_000_000;
 
 // What a call answers: done, or the number of document 01's table for which it was refused.
@@ -44,16 +45,16 @@ pub fn bad_count(n: usize) -> bool
     n == 0 || MAX_VERTICES < n
 }
 
-// Refusal 2 of a flat list: its numbers do not make whole edges.
+// Refusal 2 of a flat list: its numbers do not make whole ties.
 pub fn not_whole(list: &[u32]) -> bool
     ensures { λ r. ⌜ r ≡ notWhole (now (list .entry)) ⌝ }
 {
     list.len() % edge::STRIDE != 0
 }
 
-// Refusal 4 or 5 of one edge, or 0.
-pub fn edge_fault(n: usize, a: u32, b: u32) -> u32
-    ensures { λ r. ⌜ r ≡ fault n (a ─ b) ⌝ }
+// Refusal 4, 5 or 32 of one tie, or 0.
+pub fn tie_fault(n: usize, a: u32, b: u32, rows: u32) -> u32
+    ensures { λ r. ⌜ r ≡ fault n (tieOf (a ─ b) rows) ⌝ }
 {
     if n <= wide(a) {
         return 4;
@@ -64,34 +65,38 @@ pub fn edge_fault(n: usize, a: u32, b: u32) -> u32
     if a == b {
         return 5;
     }
+    if bad_rows(rows) {
+        return 32;
+    }
     0
 }
 
-// Whether an edge has a fault. There is no branch in it, so that a scan takes several edges at once.
-fn is_faulty(n: u32, a: u32, b: u32) -> bool
-    ensures { λ r. ⌜ r ≡ isFaulty n (a ─ b) ⌝ }
+// Whether a tie has a fault. There is no branch in it, so that a scan takes several ties at once.
+fn is_faulty(n: u32, a: u32, b: u32, rows: u32) -> bool
+    ensures { λ r. ⌜ r ≡ isFaulty n (tieOf (a ─ b) rows) ⌝ }
 {
-    (n <= a) | (n <= b) | (a == b)
+    (n <= a) | (n <= b) | (a == b) | bad_rows(rows)
 }
 
-// Whether some edge of a flat list has a fault: a scan to the end, which is quicker than one that stops.
+// Whether some tie of a flat list has a fault: a scan to the end, which is quicker than one that stops.
 fn has_fault(n: u32, edges: &[u32]) -> bool
-    ensures { λ r. ⌜ r ≡ someFault n (edgesOf (now (edges .entry))) ⌝ }
+    ensures { λ r. ⌜ r ≡ someFault n (tiesOf (now (edges .entry))) ⌝ }
 {
     let m = edge::count(edges);
     let mut found = false;
     let mut i = 0;
     while i < m {
         let e = edge::at(edges, i);
-        found = found | is_faulty(n, e.a, e.b);
+        let rows = edge::rows(edges, i);
+        found = found | is_faulty(n, e.a, e.b, rows);
         i += 1;
     }
     found
 }
 
-// Refusal 4 or 5 at the first faulty edge of a flat list, or 0. Most lists have none, which is found out first.
+// Refusal 4, 5 or 32 at the first faulty tie of a flat list, or 0. Most lists have none, which is found out first.
 pub fn list_fault(n: usize, edges: &[u32]) -> u32
-    ensures { λ r. ⌜ r ≡ firstFault n (edgesOf (now (edges .entry))) ⌝ }
+    ensures { λ r. ⌜ r ≡ firstFault n (tiesOf (now (edges .entry))) ⌝ }
 {
     if n <= MAX_VERTICES {
         if !has_fault(n as u32, edges) {
@@ -102,17 +107,32 @@ pub fn list_fault(n: usize, edges: &[u32]) -> u32
 }
 
 fn first_fault(n: usize, edges: &[u32]) -> u32
-    ensures { λ r. ⌜ r ≡ firstFault n (edgesOf (now (edges .entry))) ⌝ }
+    ensures { λ r. ⌜ r ≡ firstFault n (tiesOf (now (edges .entry))) ⌝ }
 {
     let m = edge::count(edges);
     let mut i = 0;
     while i < m {
         let e = edge::at(edges, i);
-        let number = edge_fault(n, e.a, e.b);
+        let rows = edge::rows(edges, i);
+        let number = tie_fault(n, e.a, e.b, rows);
         if number != 0 {
             return number;
         }
         i += 1;
+    }
+    0
+}
+
+// Refusal 4, 5, 32 or 20 of a list on n vertices, or 0.
+pub fn list_refusal(n: usize, edges: &[u32]) -> u32
+    ensures { λ r. ⌜ r ≡ listRefusal n (now (edges .entry)) ⌝ }
+{
+    let fault = list_fault(n, edges);
+    if fault != 0 {
+        return fault;
+    }
+    if MAX_EDGES < edge::count(edges) {
+        return 20;
     }
     0
 }

@@ -1,22 +1,30 @@
-// The limits of a division, and what goes beyond them.
+// The limits of rows and of a division, and what goes beyond them.
 ghost use mathlib.Core.Path.{_≡_};
 ghost use Prim.Native.Nat.{_<_};
-ghost use Rattle.refusal.specs.DivisionLimits.{outside, badLimits, tooHeavy};
+ghost use Rattle.refusal.specs.Limits.{maxRows, outside};
+ghost use Rattle.refusal.specs.DivisionLimits.{badLimits, tooHeavy};
 
 // The largest limit on the weight of a group.
-pub const MAX_LIMIT: u32 = 16_000_000;
+pub const MAX_LIMIT: u32 = 96_000_000;
 
 // The largest number of blocks.
 pub const MAX_BLOCKS: u32 = 1_000;
 
-// Whether x is not 1 to most.
+// The most rows of a tie.
+pub const MAX_ROWS: u32 = 6;
+
+// Whether x is not 1 to most. There is no branch in it, so that a scan takes several numbers at once.
 fn is_outside(most: u32, x: u32) -> bool
     ensures { λ r. ⌜ r ≡ outside most x ⌝ }
 {
-    if x < 1 {
-        return true;
-    }
-    most < x
+    (x < 1) | (most < x)
+}
+
+// Refusal 32: rows that are not 1 to 6.
+pub fn bad_rows(rows: u32) -> bool
+    ensures { λ r. ⌜ r ≡ outside maxRows rows ⌝ }
+{
+    is_outside(MAX_ROWS, rows)
 }
 
 // Refusal 8: a limit or a block count out of range.

@@ -1,2 +1,3 @@
 -- An edge list relabelled by an order.
 pub mod Relabel
+pub mod Steps

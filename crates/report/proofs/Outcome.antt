@@ -6,11 +6,11 @@ use mathlib.Core.List.{List, [], _∷_}
 use Prim.Native.Nat.{ℕ}
 use native.Mathlib.Omega.{arith}
 use lib.ListN.{length}
-use Rattle.game.specs.Edge.{edges}
+use Rattle.game.specs.Edge.{ties, edges}
 use Rattle.game.specs.Net.{Net, netOf}
 use Rattle.refusal.specs.Refusal.{first}
 use Rattle.refusal.proofs.First.{first-pass, first-stop, first-last, unless-refused, unless-accepted}
-use Rattle.refusal.proofs.Fault.{faultless-proper}
+use Rattle.refusal.proofs.Fault.{list-proper}
 use Rattle.growth.specs.Work.{Work, cleared}
 use Rattle.divide.proofs.Refused.{divide-known}
 use Rattle.reach_slots.specs.Given.{lowerCounts, Given}
@@ -33,7 +33,7 @@ module _ (of : Net) (B k : ℕ) (xs : List ℕ) (was : Lent) where
   early = reportEarly of B k xs (wrongLent of k xs was)
 
   late : ℕ
-  late = unlike of (edges xs)
+  late = unlike of (ties xs)
 
   -- refused before the comparison: the number, and every table as it was
   pub ends-early : {code : ℕ} {wrong : Bool} → code ≡ reportEarly of B k xs wrong → wrong ≡ wrongLent of k xs was → (code ≡ 0 → ⊥)
@@ -58,7 +58,7 @@ module _ (of : Net) (B k : ℕ) (xs : List ℕ) (was : Lent) where
     passed = first-pass early (late ∷ []) z ∙ first-last late
 
     -- refused by the comparison: 23, the comparison tables hold the edges' net, and all but the work tables is as it was
-    pub ends-late : {same : Bool} {new : Net} {work : Work} → Compared of (edges xs) (was .work) same new work → same ≡ false
+    pub ends-late : {same : Bool} {new : Net} {work : Work} → Compared of xs (was .work) same new work → same ≡ false
         → ended (refused 23) (lent (was .written) new work) ≡ reportOutcome of B k xs was
     unfolding reportOutcome reportRefusal early late
     ends-late c differs =
@@ -67,7 +67,7 @@ module _ (of : Net) (B k : ℕ) (xs : List ℕ) (was : Lent) where
         ∙ sym (unless-accepted early was _ z))
       where
         is : late ≡ 23
-        is = found-other of (edges xs) (c .answer) differs
+        is = found-other of (ties xs) (c .answer) differs
 
         some : late ≡ 0 → ⊥
         some e = omega (arith, is)
@@ -77,18 +77,18 @@ module _ (of : Net) (B k : ℕ) (xs : List ℕ) (was : Lent) where
             ap (λ (m : ℕ). judged m (totalsOf of (edges xs) B k)) (passed ∙ is) ∙ judged-refused 23 _ (λ e. omega arith)
 
     -- where the comparison finds the net, it is the net of its edges
-    module _ {same : Bool} {new : Net} {work : Work} (c : Compared of (edges xs) (was .work) same new work) (found : same ≡ true) where
-      own : of ≡ netOf (length (of .parents)) (edges xs)
-      own = found-own of (edges xs) (c .answer) found
+    module _ {same : Bool} {new : Net} {work : Work} (c : Compared of xs (was .work) same new work) (found : same ≡ true) where
+      own : of ≡ netOf (length (of .parents)) (ties xs)
+      own = found-own of (ties xs) (c .answer) found
 
       own-list : Given (of .parents) (lowerCounts (length (of .parents)) (edges xs)) (edges xs)
-      unfolding netOf
+      unfolding netOf edges
       own-list =
           let r = ready of B k xs was z in
           record {
             vertices = omega (arith, r .compares .growable .vertices, r .compares .parents);
             few = r .few;
-            proper = faultless-proper (length (of .parents)) (edges xs) (r .faultless);
+            proper = list-proper (length (of .parents)) xs (r .faultless);
             parents = ap (λ (of : Net). of .parents) own;
             counts = refl;
           }
@@ -124,7 +124,7 @@ module _ (of : Net) (B k : ℕ) (xs : List ℕ) (was : Lent) where
           blocks = l ∙ ready of B k xs was z .lengths .sized .loads
 
           none : late ≡ 0
-          none = same-passes of (edges xs) own
+          none = same-passes of (ties xs) own
 
           number : judged (first (early ∷ late ∷ [])) (totalsOf of (edges xs) B k) ≡ accepted (totalsOf of (edges xs) B k)
           number = judged-accepted (first (early ∷ late ∷ [])) _ (passed ∙ none)

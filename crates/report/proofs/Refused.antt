@@ -5,7 +5,7 @@ use mathlib.Core.Bool.{false}
 use mathlib.Core.List.{List}
 use Prim.Native.Nat.{ℕ, _≤_, _<_}
 use lib.ListN.{length}
-use Rattle.game.specs.Edge.{edges}
+use Rattle.game.specs.Edge.{ties, edges}
 use Rattle.game.specs.Net.{Net, net}
 use Rattle.game.proofs.Bools.{or-neither}
 use Rattle.refusal.specs.Limits.{maxEdges}
@@ -16,7 +16,7 @@ use Rattle.divide.specs.Divide.{divisionOf, wrongTables, divideRefusal}
 use Rattle.divide.proofs.Refused.{Sized, tables-not, refused-not}
 use Rattle.compare.specs.Compare.{wrongCompared}
 use Rattle.compare.specs.Steps.{Comparable}
-use Rattle.compare.proofs.Refused.{list-passed}
+use Rattle.refusal.proofs.ListRefusal.{list-passed}
 use Rattle.compare.proofs.Ready.{ComparedLengths, compared-lengths, comparable}
 use Rattle.report_write.specs.Written.{written}
 use Rattle.report_refusal.specs.Refused.{reportEarly}
@@ -69,7 +69,7 @@ pub record Ready (of : Net) (B k : ℕ) (xs : List ℕ) (was : Lent) : Type 0 wh
   pub lengths : Lengths of k xs was
   pub divides : divideRefusal of B k (was .written .division) ≡ 0
   pub compares : Comparable of xs (was .compared) (was .work)
-  pub faultless : firstFault (length (of .parents)) (edges xs) ≡ 0
+  pub faultless : firstFault (length (of .parents)) (ties xs) ≡ 0
   pub few : length (edges xs) ≤ maxEdges
 
 pub ready : (of : Net) (B k : ℕ) (xs : List ℕ) (was : Lent) → reportEarly of B k xs (wrongLent of k xs was) ≡ 0 → Ready of B k xs was

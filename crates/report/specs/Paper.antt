@@ -7,10 +7,11 @@ use mathlib.Core.List.{List, [], _∷_}
 use Prim.Native.Nat.{ℕ}
 use lib.ListN.{replicate}
 use Rattle.game.specs.Table.{tabulate, sum, count, member, filtered}
-use Rattle.game.specs.Edge.{lower, edges, touches}
+use Rattle.game.specs.Edge.{lower, ties, edges, touches}
 use Rattle.game.specs.Tree.{sound}
 use Rattle.game.specs.Net.{Net, net, netOf, reach}
-use Rattle.refusal.specs.Refusal.{given, first, unless, badCount, wrongLength, notWhole, fault, firstFault}
+use Rattle.refusal.specs.Limits.{outside}
+use Rattle.refusal.specs.Refusal.{given, first, unless, badCount, wrongLength, notWhole, edgeFault, fault, firstFault, listRefusal}
 use Rattle.net.specs.Damage.{damagedBy, damaged}
 use Rattle.growth.specs.Work.{workOf, badWork, zeros, cleared}
 use Rattle.refusal.specs.DivisionLimits.{badLimits, tooHeavy}
@@ -19,7 +20,7 @@ use Rattle.share.specs.Share.{share, evenShare}
 use Rattle.block_count.specs.BlockCount.{edgeBlock, edgeBlocks, blocksAt, different, blockCount}
 use Rattle.cost.specs.Figures.{isCut, bound, volume, boundOf, volumeOf, shareOf, totals, totalsOf}
 use Rattle.block_count.specs.Taken.{allMet, takenAfter, edgesTaken}
-use Rattle.compare.specs.Likeness.{listRefusal, sameTable, sameNet}
+use Rattle.compare.specs.Likeness.{sameTable, sameNet}
 use Rattle.compare.specs.Compare.{wrongCompared, unlike}
 use Rattle.game.specs.Case.{whole, own, other, others}
 use Rattle.refusal.specs.Verdict.{accepted, refused, judged}
@@ -83,5 +84,5 @@ printed =
     ∷ []
 
 pub paper : computed ≡ printed
-unfolding computed printed whole own other others sevens given-tables given-all cleared-with reaches reportOutcome reportRefusal reportEarly unlike wrongCompared listRefusal wrongLent wrongFigures figures first given unless badCount wrongLength notWhole fault firstFault damaged damagedBy sound badWork cleared zeros badLimits tooHeavy wrongTables divided judged sameNet sameTable netOf reach edgeBlocks edgeBlock lower blockCount different blocksAt edgesTaken takenAfter allMet filtered touches bound boundOf isCut volume volumeOf shareOf evenShare totalsOf tabulate sum count member edges
+unfolding computed printed whole own other others sevens given-tables given-all cleared-with reaches reportOutcome reportRefusal reportEarly unlike wrongCompared listRefusal wrongLent wrongFigures figures first given unless badCount wrongLength notWhole edgeFault outside fault firstFault damaged damagedBy sound badWork cleared zeros badLimits tooHeavy wrongTables divided judged sameNet sameTable netOf reach edgeBlocks edgeBlock lower blockCount different blocksAt edgesTaken takenAfter allMet filtered touches bound boundOf isCut volume volumeOf shareOf evenShare totalsOf tabulate sum count member ties edges
 paper = refl

@@ -1,4 +1,4 @@
--- What a report says of the same edges in another order, or with the ends of some of them exchanged.
+-- What a report says of the same ties in another order, or with the ends of some of them exchanged. A tie keeps its rows.
 --
 -- Everything that a report decides, answers and writes is the same, but for two tables that follow the list: the block of each edge stands
 -- at the edge's place in the list, and the edges that a count took are counted in list order.

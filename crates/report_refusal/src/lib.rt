@@ -1,4 +1,4 @@
-// What Report is refused for before anything is compared: 1, 2, 8, 30, 4 or 5, 20 and 22, found by reading alone.
+// What Report is refused for before anything is compared: 1, 2, 8, 30, 4, 5 or 32, 20 and 22, found by reading alone.
 use net::Net;
 ghost use mathlib.Core.Path.{_≡_};
 ghost use mathlib.Core.Bool.{false, _||_};
@@ -93,7 +93,7 @@ pub fn report_early(
     if Net::of(weights).is_damaged(parents) {
         return 30;
     }
-    let list = compare::list_refusal(n, edges);
+    let list = refusal::list_refusal(n, edges);
     if list != 0 {
         return list;
     }

@@ -10,8 +10,7 @@ use Rattle.game.specs.Table.{tabulate, sum}
 use Rattle.game.specs.Edge.{Edge}
 use Rattle.game.specs.Net.{Net, net, reach}
 use Rattle.game.proofs.Tables.{tabulate-length}
-use Rattle.refusal.specs.Refusal.{firstFault}
-use Rattle.refusal.proofs.Fault.{proper-faultless}
+use Rattle.game.specs.Graph.{Proper}
 use Rattle.sorting.specs.Sorted.{withKey}
 use Rattle.bucket.specs.Ends.{endOf, ending}
 use Rattle.bucket.specs.Filed.{Filed}
@@ -86,8 +85,8 @@ module _ {p w c t b l eb re bc en lo : List ℕ} {es : List Edge} {B : ℕ} (q :
   reach-long : length re′ ≡ length p
   reach-long = ap length (s .reached) ∙ tabulate-length (length p) (reach p es)
 
-  pub block-faultless : firstFault (length b′) es ≡ 0
-  block-faultless = ap (λ (n : ℕ). firstFault n es) block-long ∙ proper-faultless (length p) es (q .own .proper)
+  pub block-proper : Proper (length b′) es
+  block-proper = subst (λ (n : ℕ). Proper n es) (sym block-long) (q .own .proper)
 
   pub block-countable : {m : ℕ} {bc′ ta ju : List ℕ} → m ≡ length l → length bc′ ≡ length bc → ta ≡ lowerCounts (length p) es → length ju ≡ length p → Countable es ta b′ m en lo bc′ ju
   unfolding of k

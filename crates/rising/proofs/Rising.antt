@@ -8,39 +8,40 @@ use native.Mathlib.Omega.{arith}
 use lib.Dec.{eqb, leb, ltb}
 use lib.ListN.{length, getD, drop}
 use borrow.Author.Tests.{ltb-false}
-use Rattle.game.specs.Edge.{Edge, _─_}
+use Rattle.game.specs.Edge.{_─_, Tie, ties, edges}
 use Rattle.game.proofs.Bools.{or-neither}
-use Rattle.edge.proofs.Reading.{AtEdge, edge-start, edge-next, edge-here, edge-end}
+use Rattle.edge.proofs.Reading.{noTie, AtEdge, edge-start, edge-next, tie-here, tie-end}
+use Rattle.refusal.specs.Limits.{maxRows, outside}
 use Rattle.refusal.specs.Refusal.{firstFault}
 use Rattle.refusal.proofs.Fault.{first-fault-on}
 use Rattle.bucket.specs.Ends.{endOf}
-use Rattle.bucket.proofs.Sweep.{upper-faultless}
+use Rattle.bucket.proofs.Sweeping.{upper-faultless}
 use Rattle.rising.specs.Rising.{Rises, stop, rise}
 
-pub rises-faultless : {n last : ℕ} {es : List Edge} → Rises n last es → firstFault n es ≡ 0
+pub rises-faultless : {n last : ℕ} {ts : List Tie} → Rises n last ts → firstFault n ts ≡ 0
 unfolding firstFault
 rises-faultless stop = refl
-rises-faultless {n} (rise {e = e} {es = es} f l r) = first-fault-on n e es f ∙ rises-faultless r
+rises-faultless {n} (rise {t = t} {ts = ts} f l r) = first-fault-on n t ts f ∙ rises-faultless r
 
--- the list is read up to edge i of m, with the highest upper end at `last`: if what is left rises from there, the whole does
-pub record Reading (n : ℕ) (es : List Edge) (m last i : ℕ) : Type 0 where
-  pub place : AtEdge es m i
-  pub on : Rises n last (drop i es) → Rises n 0 es
+-- the list is read up to tie i of m, with the highest upper end at `last`: if what is left rises from there, the whole does
+pub record Reading (n : ℕ) (xs : List ℕ) (m last i : ℕ) : Type 0 where
+  pub place : AtEdge (edges xs) m i
+  pub on : Rises n last (drop i (ties xs)) → Rises n 0 (ties xs)
 
-pub reading-start : (n : ℕ) {es : List Edge} {m : ℕ} → m ≡ length es → Reading n es m 0 0
-reading-start n e = record { place = edge-start e; on = λ r. r }
+pub reading-start : (n : ℕ) (xs : List ℕ) {m : ℕ} → m ≡ length (edges xs) → Reading n xs m 0 0
+reading-start n xs e = record { place = edge-start e; on = λ r. r }
 
-module _ {n : ℕ} {es : List Edge} {m last i : ℕ} (s : Reading n es m last i) where
-  pub reading-end : m ≤ i → Rises n 0 es
-  reading-end h = s .on (subst (Rises n last) (sym (edge-end (s .place) h)) stop)
+module _ {n : ℕ} {xs : List ℕ} {m last i : ℕ} (s : Reading n xs m last i) where
+  pub reading-end : m ≤ i → Rises n 0 (ties xs)
+  reading-end h = s .on (subst (Rises n last) (sym (tie-end xs (s .place) h)) stop)
 
-  pub reading-edge : (h : i < m) {a b end : ℕ} → (a ─ b) ≡ getD es i (0 ─ 0) → end ≡ endOf true (a ─ b)
-      → ((leb n end || eqb a b) || ltb end last) ≡ false → Reading n es m end (i + 1)
-  reading-edge h {a} {b} {end} r q t =
-      let (k, l) = or-neither (leb n end || eqb a b) (ltb end last) t in
+  pub reading-tie : (h : i < m) {a b rows end : ℕ} → (a ─ b) ≡ getD (edges xs) i (0 ─ 0) → rows ≡ getD (ties xs) i noTie .rows → end ≡ endOf true (a ─ b)
+      → ((leb n end || eqb a b || outside maxRows rows) || ltb end last) ≡ false → Reading n xs m end (i + 1)
+  reading-tie h {a} {b} {rows} {end} r f q t =
+      let (k, l) = or-neither (leb n end || eqb a b || outside maxRows rows) (ltb end last) t in
       record {
         place = edge-next (s .place) h;
         on = λ rest.
-            s .on (subst (Rises n last) (sym (edge-here (s .place) h r))
-            (rise (upper-faultless n _ _ q k .1) (omega (arith, ltb-false end last l, q)) (subst (λ (y : ℕ). Rises n y (drop (i + 1) es)) q rest)));
+            s .on (subst (Rises n last) (sym (tie-here xs (s .place) h r f))
+            (rise (upper-faultless n _ _ _ q k .1) (omega (arith, ltb-false end last l, q)) (subst (λ (y : ℕ). Rises n y (drop (i + 1) (ties xs))) q rest)));
       }

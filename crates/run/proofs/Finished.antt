@@ -7,11 +7,11 @@ use Prim.Native.Nat.{ℕ, _/_, _≤_}
 use native.Mathlib.Omega.{arith}
 use lib.ListN.{length, take, drop, replicate, length-replicate}
 use lib.Seq.{length-take-le}
-use Rattle.game.specs.Edge.{edges}
+use Rattle.game.specs.Edge.{ties}
 use Rattle.game.specs.Net.{netOf}
 use Rattle.game.proofs.Edges.{edges-length}
 use Rattle.refusal.specs.Refusal.{given, first, firstFault}
-use Rattle.refusal.proofs.First.{first-none, first-pass, first-stop, first-last, given-none, unless-refused}
+use Rattle.refusal.proofs.First.{first-none, first-pass, first-stop, first-last, given-none, whole-list, unless-refused}
 use Rattle.words.specs.Word.{words}
 use Rattle.words.proofs.Bytes.{words-length}
 use Rattle.order.specs.Order.{badOrder}
@@ -22,9 +22,9 @@ use Rattle.decimal.proofs.Runs.{put-front}
 use Rattle.lines.specs.Lines.{refusedText}
 use Rattle.files.specs.Files.{Files, vertexCount, order, edgeList, limit, blocks, vertexCapacity}
 use Rattle.files.specs.Refused.{fileRefusal}
-use Rattle.files.specs.Steps.{FilesLoaded, endCapacity}
+use Rattle.files.specs.Steps.{FilesLoaded, numberCapacity}
 use Rattle.files.proofs.Loading.{Sizes, sizes, sizes-pass}
-use Rattle.run.specs.Run.{rankedEdges, runNet, runRefusal}
+use Rattle.run.specs.Run.{rankedTies, runNet, runRefusal}
 use Rattle.run_report.specs.Text.{reportText, decidedText}
 use Rattle.run.specs.Text.{runText}
 use Rattle.run_report.specs.Steps.{Runnable, netText}
@@ -37,7 +37,7 @@ module _ (f : Files) where
   -- files that are not refused
   module _ (z : fileRefusal f ≡ 0) where
     -- what they say
-    said : (badOrder (order f) ≡ false) × (badLimits (limit f) (blocks f) ≡ false) × (firstFault (vertexCount f) (edges (edgeList f)) ≡ 0)
+    said : (badOrder (order f) ≡ false) × (badLimits (limit f) (blocks f) ≡ false) × (firstFault (vertexCount f) (ties (edgeList f)) ≡ 0)
     unfolding fileRefusal
     said =
         let a = first-none _ _ z in
@@ -61,20 +61,20 @@ module _ (f : Files) where
           some = omega (arith, s .some, n);
           vertices = omega (arith, s .vertices, n);
           few = omega (arith, s .edges, s .ties, m, edges-length (words (f .ties)));
-          even = omega (arith, s .ties, m);
+          all = whole-list (words (f .ties)) (omega (arith, s .ties, m));
           good = said .0;
-          faultless = ap (λ (k : ℕ). firstFault k (edges (words (f .ties)))) n ∙ said .2;
+          faultless = ap (λ (k : ℕ). firstFault k (ties (words (f .ties)))) n ∙ said .2;
         }
 
     -- only 22 is left
-    accepted-text : netText (order f) (rankedEdges f) (limit f) (blocks f) ≡ runText f
+    accepted-text : netText (order f) (rankedTies f) (limit f) (blocks f) ≡ runText f
     unfolding netText runText runRefusal runNet
     accepted-text =
-        ap (λ (n : ℕ). text (given (tooHeavy (limit f) (netOf n (rankedEdges f) .weights)) 22)) as-long
+        ap (λ (n : ℕ). text (given (tooHeavy (limit f) (netOf n (rankedTies f) .weights)) 22)) as-long
         ∙ ap text (sym (first-pass _ _ z ∙ first-last _))
       where
         text : ℕ → List ℕ
-        text code = decidedText code (reportText (order f) (rankedEdges f) (limit f) (blocks f))
+        text code = decidedText code (reportText (order f) (rankedTies f) (limit f) (blocks f))
 
   -- files that are refused
   pub refused-text : {code : ℕ} → code ≡ fileRefusal f → (code ≡ 0 → ⊥) → refusedText code ≡ runText f
@@ -117,15 +117,15 @@ module _ {f : Files} {o xs : List ℕ} {code : ℕ} (l : FilesLoaded f o xs code
     pub order-counted : length o ≡ length {A = ℕ} (replicate vertexCapacity 0) → length (f .marks) / 4 ≡ length (take (length (f .marks) / 4) o)
     order-counted e = sym (length-take-le _ o (order-fits e))
 
-    pub edges-fit : length xs ≡ length {A = ℕ} (replicate endCapacity 0) → length (f .ties) / 4 ≤ length xs
-    edges-fit e = omega (arith, sizes-known .edges, sizes-known .ties, e, length-replicate {A = ℕ} endCapacity 0)
+    pub edges-fit : length xs ≡ length {A = ℕ} (replicate numberCapacity 0) → length (f .ties) / 4 ≤ length xs
+    edges-fit e = omega (arith, sizes-known .edges, sizes-known .ties, e, length-replicate {A = ℕ} numberCapacity 0)
 
-    pub edges-counted : length xs ≡ length {A = ℕ} (replicate endCapacity 0) → length (f .ties) / 4 ≡ length (take (length (f .ties) / 4) xs)
+    pub edges-counted : length xs ≡ length {A = ℕ} (replicate numberCapacity 0) → length (f .ties) / 4 ≡ length (take (length (f .ties) / 4) xs)
     edges-counted e = sym (length-take-le _ xs (edges-fit e))
 
     pub ends-accepted : {was now : List ℕ} {B k end : ℕ} → B ≡ limit f → k ≡ blocks f
-        → PutText was 0 (netText (take (length (f .marks) / 4) o) (edges (relabelled (take (length (f .marks) / 4) o) (take (length (f .ties) / 4) xs))) B k) now end
+        → PutText was 0 (netText (take (length (f .marks) / 4) o) (ties (relabelled (take (length (f .marks) / 4) o) (take (length (f .ties) / 4) xs))) B k) now end
         → Finished f was now end
-    unfolding rankedEdges
+    unfolding rankedTies
     ends-accepted eB ek p =
-        finished f ((λ i. netText (l .ordered z i) (edges (relabelled (l .ordered z i) (l .listed z i))) (eB i) (ek i)) ∙ accepted-text f passed) p
+        finished f ((λ i. netText (l .ordered z i) (ties (relabelled (l .ordered z i) (l .listed z i))) (eB i) (ek i)) ∙ accepted-text f passed) p

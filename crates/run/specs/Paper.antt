@@ -6,9 +6,9 @@ use mathlib.Core.List.{List, [], _∷_, _++_}
 use Prim.Native.Nat.{ℕ}
 use lib.ListN.{replicate}
 use Rattle.game.specs.Table.{tabulate, sum, count, member, filtered}
-use Rattle.game.specs.Edge.{lower, edges, touches}
-use Rattle.game.specs.Net.{owner, charge, weight, weights, netOf, reach}
-use Rattle.refusal.specs.Refusal.{given, first, unless, wrongLength, fault, firstFault}
+use Rattle.game.specs.Edge.{lower, ties as tiesOf, edges, touches}
+use Rattle.game.specs.Net.{owner, weight, weights, netOf, reach}
+use Rattle.refusal.specs.Refusal.{given, first, unless, wrongLength, edgeFault, fault, firstFault}
 use Rattle.order.specs.Order.{badOrder}
 use Rattle.relabel.specs.Relabel.{relabelled}
 use Rattle.refusal.specs.DivisionLimits.{badLimits, tooHeavy}
@@ -24,31 +24,34 @@ use Rattle.lines.specs.Line.{spaced, newlined, parentText, lineText}
 use Rattle.lines.specs.Lines.{refusedText, rankText, linesBelow, shareText, totalsText}
 use Rattle.files.specs.Files.{files, vertexCount, edgeCount, order, edgeList, limit, blocks}
 use Rattle.files.specs.Refused.{tooMany, partRecord, notRecords, fileRefusal}
-use Rattle.run.specs.Run.{rankedEdges, runNet, runRefusal}
+use Rattle.run.specs.Run.{rankedTies, runNet, runRefusal}
 use Rattle.run_report.specs.Text.{reportText, decidedText}
 use Rattle.run.specs.Text.{runText}
 
--- the order and the edges of the whole case
+-- the order and the ties of the whole case, each of one row
 marks : List ℕ
 marks = bytesOf (3 ∷ 0 ∷ 1 ∷ 2 ∷ 4 ∷ 5 ∷ [])
 
 ties : List ℕ
-ties = bytesOf (3 ∷ 1 ∷ 3 ∷ 4 ∷ 0 ∷ 2 ∷ 0 ∷ 4 ∷ 1 ∷ 5 ∷ 1 ∷ 3 ∷ [])
+ties = bytesOf (3 ∷ 1 ∷ 1 ∷ 3 ∷ 4 ∷ 1 ∷ 0 ∷ 2 ∷ 1 ∷ 0 ∷ 4 ∷ 1 ∷ 1 ∷ 5 ∷ 1 ∷ 1 ∷ 3 ∷ 1 ∷ [])
 
 want : (B k : ℕ) → List ℕ
 want B k = bytesOf (B ∷ k ∷ [])
 
--- a list that names a vertex 9, and one that before that names a vertex twice
+-- a list that names a vertex 9, one that before that names a vertex twice, and one that before both has a tie of 7 rows
 foreign : List ℕ
-foreign = bytesOf (9 ∷ 9 ∷ [])
+foreign = bytesOf (9 ∷ 9 ∷ 0 ∷ [])
 
 twice : List ℕ
-twice = bytesOf (1 ∷ 1 ∷ 9 ∷ 9 ∷ [])
+twice = bytesOf (1 ∷ 1 ∷ 0 ∷ 9 ∷ 9 ∷ 0 ∷ [])
+
+costly : List ℕ
+costly = bytesOf (1 ∷ 2 ∷ 7 ∷ 1 ∷ 1 ∷ 0 ∷ [])
 
 zeros : ℕ → List ℕ
 zeros n = replicate n 0
 
--- B = 4 and k = 2; B = 3; k = 1; B = 2; one vertex and no edge
+-- B = 4 and k = 2; B = 3; k = 1; B = 2; one vertex and no tie
 pub computed : List (List ℕ)
 computed =
     runText (files marks ties (want 4 2))
@@ -85,28 +88,31 @@ printed =
     ∷ (ascii "0 0 - 0 0 0 0 0\n" ++ ascii "bound 0 volume 0 share 0 0\n")
     ∷ []
 
--- No vertex, and part of one, with anything; more than 1,000 vertices; more than 4,000 edges; part of a record behind 1,000 vertices,
--- behind the edges, and no limits at all; an order that repeats; a limit of 0; an edge of a vertex 9; an edge of one vertex, before that.
+-- No vertex, and part of one, with anything; more than 1,000 vertices; more than 4,000 ties; part of a record behind 1,000 vertices,
+-- behind the ties, and no limits at all; an order that repeats; a limit of 0; a tie of a vertex 9; a tie of one vertex, before that; a tie
+-- of 7 rows, before that, with a limit of 0 and with good limits.
 pub refusedRuns : List ℕ
 refusedRuns =
     runRefusal (files [] foreign [])
     ∷ runRefusal (files (zeros 3) foreign [])
     ∷ runRefusal (files (zeros 4_004) foreign [])
-    ∷ runRefusal (files marks (zeros 32_008) [])
+    ∷ runRefusal (files marks (zeros 48_012) [])
     ∷ runRefusal (files (zeros 4_001) foreign (want 0 0))
-    ∷ runRefusal (files (zeros 8) (zeros 12) (want 0 0))
+    ∷ runRefusal (files (zeros 8) (zeros 8) (want 0 0))
     ∷ runRefusal (files (zeros 8) foreign [])
     ∷ runRefusal (files (zeros 8) foreign (want 0 0))
     ∷ runRefusal (files marks foreign (want 0 2))
     ∷ runRefusal (files marks foreign (want 4 1_001))
     ∷ runRefusal (files marks foreign (want 4 2))
     ∷ runRefusal (files marks twice (want 4 2))
+    ∷ runRefusal (files marks costly (want 0 2))
+    ∷ runRefusal (files marks costly (want 4 2))
     ∷ []
 
 pub paper : computed ≡ printed
-unfolding computed printed marks ties want zeros ascii decimal runText runRefusal fileRefusal tooMany partRecord notRecords rankedEdges runNet vertexCount edgeCount order edgeList limit blocks refusedText spaced newlined parentText lineText rankText linesBelow shareText totalsText reportText decidedText words wordAt bytesOf unless first given wrongLength badOrder badLimits firstFault edges fault tooHeavy netOf relabelled figures reach divided lower owner charge weight weights edgeBlocks edgeBlock blockCount different blocksAt filtered touches bound boundOf isCut volume volumeOf shareOf evenShare totalsOf tabulate sum count member
+unfolding computed printed marks ties want zeros ascii decimal runText runRefusal fileRefusal tooMany partRecord notRecords rankedTies runNet vertexCount edgeCount order edgeList limit blocks refusedText spaced newlined parentText lineText rankText linesBelow shareText totalsText reportText decidedText words wordAt bytesOf unless first given wrongLength badOrder badLimits firstFault tiesOf edges edgeFault fault tooHeavy netOf relabelled figures reach divided lower owner weight weights edgeBlocks edgeBlock blockCount different blocksAt filtered touches bound boundOf isCut volume volumeOf shareOf evenShare totalsOf tabulate sum count member
 paper = refl
 
-pub refused : refusedRuns ≡ 1 ∷ 1 ∷ 2 ∷ 2 ∷ 6 ∷ 6 ∷ 6 ∷ 3 ∷ 8 ∷ 8 ∷ 4 ∷ 5 ∷ []
-unfolding refusedRuns marks foreign twice want zeros runRefusal fileRefusal tooMany partRecord notRecords vertexCount edgeCount order edgeList limit blocks words wordAt bytesOf first given wrongLength badOrder badLimits firstFault edges fault
+pub refused : refusedRuns ≡ 1 ∷ 1 ∷ 2 ∷ 2 ∷ 6 ∷ 6 ∷ 6 ∷ 3 ∷ 8 ∷ 8 ∷ 4 ∷ 5 ∷ 8 ∷ 32 ∷ []
+unfolding refusedRuns marks foreign twice costly want zeros runRefusal fileRefusal tooMany partRecord notRecords vertexCount edgeCount order edgeList limit blocks words wordAt bytesOf first given wrongLength badOrder badLimits firstFault tiesOf edgeFault fault
 refused = refl

@@ -1,6 +1,6 @@
 // One run of the program `blocks`, from the bytes of its three files to the text that it prints: the files are checked for what they are
 // refused for, and the text is written.
-use files::EDGE_ENDS;
+use files::EDGE_NUMBERS;
 use files::VERTICES;
 ghost use mathlib.Core.Path.{_≡_};
 ghost use Prim.Native.Nat.{_≤_};
@@ -19,14 +19,14 @@ pub fn run(marks: &[u8], ties: &[u8], want: &[u8], text: &mut [u8; TEXT]) -> usi
     ensures { λ r. ⌜ (r ≤ length (now (text .exit))) × (r ≡ length (take r (now (text .exit)))) ⌝ }
 {
     let mut order = [0u32; VERTICES];
-    let mut edges = [0u32; EDGE_ENDS];
+    let mut edges = [0u32; EDGE_NUMBERS];
     let code = files::load(marks, ties, want, &mut order, &mut edges);
     if code != 0 {
         return lines::put_refused(text, code);
     }
     let n = marks.len() / files::WORD;
-    let edge_ends = ties.len() / files::WORD;
+    let numbers = ties.len() / files::WORD;
     let limit = words::word_at(want, 0);
     let blocks = words::word_at(want, files::WORD);
-    run_report::divide(&order[..n], &edges[..edge_ends], limit, blocks, text)
+    run_report::divide(&order[..n], &edges[..numbers], limit, blocks, text)
 }

@@ -6,13 +6,13 @@ use mathlib.Core.List.{List}
 use Prim.Native.Nat.{ℕ}
 use native.Mathlib.Omega.{arith}
 use lib.ListN.{length}
-use Rattle.game.specs.Edge.{edges}
+use Rattle.game.specs.Edge.{ties}
 use Rattle.game.specs.Net.{Net, net, netOf}
 use Rattle.relabel.specs.Relabel.{relabelled}
 use Rattle.refusal.specs.DivisionLimits.{badLimits}
 use Rattle.decimal.specs.Put.{PutText}
 use Rattle.run_report.specs.Steps.{Runnable, RankedNet, Ready, netText}
-use Rattle.run_report.proofs.Growing.{ranked-count, ranked-even, ranked-faultless}
+use Rattle.run_report.proofs.Growing.{ranked-count, ranked-whole, ranked-faultless}
 
 -- what was grown, read again from the tables that it stands in
 pub grown-again : {o xs ranks p w ranks′ p′ w′ : List ℕ} → RankedNet o xs ranks (net p w) → ranks′ ≡ ranks → p′ ≡ p → w′ ≡ w → RankedNet o xs ranks′ (net p′ w′)
@@ -25,12 +25,12 @@ module _ {o xs ranks : List ℕ} {grown : Net} (r : Runnable o xs) (g : RankedNe
         some = r .some;
         vertices = r .vertices;
         few = omega (arith, ranked-count r (g .ranked), r .few);
-        even = ranked-even r (g .ranked);
+        all = ranked-whole r (g .ranked);
         faultless = ranked-faultless r (g .ranked);
         limits = good;
-        own = g .net ∙ ap (λ (ys : List ℕ). netOf (length o) (edges ys)) (sym (g .ranked));
+        own = g .net ∙ ap (λ (ys : List ℕ). netOf (length o) (ties ys)) (sym (g .ranked));
       }
 
-  pub put-ranked : (B k : ℕ) {text text′ : List ℕ} {end : ℕ} → PutText text 0 (netText o (edges ranks) B k) text′ end
-      → PutText text 0 (netText o (edges (relabelled o xs)) B k) text′ end
-  put-ranked B k {text} {text′} {end} p = subst (λ (ys : List ℕ). PutText text 0 (netText o (edges ys) B k) text′ end) (g .ranked) p
+  pub put-ranked : (B k : ℕ) {text text′ : List ℕ} {end : ℕ} → PutText text 0 (netText o (ties ranks) B k) text′ end
+      → PutText text 0 (netText o (ties (relabelled o xs)) B k) text′ end
+  put-ranked B k {text} {text′} {end} p = subst (λ (ys : List ℕ). PutText text 0 (netText o (ties ys) B k) text′ end) (g .ranked) p

@@ -7,14 +7,14 @@ use Prim.Native.Nat.{ℕ, _+_, _/_, _%_, _≤_, _<_}
 use native.Mathlib.Omega.{arith}
 use lib.ListN.{length}
 use borrow.Author.Tests.{ne-eqb, le-ltb}
-use Rattle.game.specs.Edge.{edges}
+use Rattle.game.specs.Edge.{ties, edges}
 use Rattle.game.specs.Net.{net, netOf}
 use Rattle.game.proofs.Edges.{edges-length}
 use Rattle.refusal.specs.Limits.{maxVertices}
-use Rattle.refusal.specs.Refusal.{badCount, firstFault}
+use Rattle.refusal.specs.Refusal.{badCount, notWhole, firstFault}
 use Rattle.refusal.specs.Verdict.{Verdict}
 use Rattle.refusal.specs.Outcome.{Outcome, ended, decided}
-use Rattle.refusal.proofs.First.{pass, first-last, right-length, even-list, unless-accepted}
+use Rattle.refusal.proofs.First.{pass, first-last, right-length, whole-list, list-whole, unless-accepted}
 use Rattle.moved.specs.declared.Moved.{Moved}
 use Rattle.growth.specs.Work.{Work, workOf, NetWithWork, withWork}
 use Rattle.start.specs.Start.{startOutcome}
@@ -36,13 +36,13 @@ module _ {o xs ranks : List ℕ} (r : Runnable o xs) (e : ranks ≡ relabelled o
   ranked-length = ap length e ∙ relabelled-length o xs
 
   pub ranked-count : length (edges ranks) ≡ length (edges xs)
-  ranked-count = edges-length ranks ∙ ap (λ (n : ℕ). n / 2) ranked-length ∙ sym (edges-length xs)
+  ranked-count = edges-length ranks ∙ ap (λ (n : ℕ). n / 3) ranked-length ∙ sym (edges-length xs)
 
-  pub ranked-even : length ranks % 2 ≡ 0
-  ranked-even = ap (λ (n : ℕ). n % 2) ranked-length ∙ r .even
+  pub ranked-whole : notWhole ranks ≡ false
+  ranked-whole = whole-list ranks (ap (λ (n : ℕ). n % 3) ranked-length ∙ list-whole xs (r .all))
 
-  pub ranked-faultless : firstFault (length o) (edges ranks) ≡ 0
-  ranked-faultless = ap (λ (ys : List ℕ). firstFault (length o) (edges ys)) e ∙ relabelled-faultless o (r .good) xs (r .faultless)
+  pub ranked-faultless : firstFault (length o) (ties ranks) ≡ 0
+  ranked-faultless = ap (λ (ys : List ℕ). firstFault (length o) (ties ys)) e ∙ relabelled-faultless o (r .good) xs (r .faultless)
 
 -- the tables of growing's own
 pub record GrowWork (o xs inverse : List ℕ) (work : Work) : Type 0 where
@@ -56,7 +56,7 @@ module _ {o xs ranks p w v e j l : List ℕ} (r : Runnable o xs) (room : GrowRoo
   unfolding relabelRefusal
   passes =
       pass 1 _ (few-vertices (length o) (r .some) (r .vertices))
-      ∙ pass 2 _ (even-list xs (r .even))
+      ∙ pass 2 _ (r .all)
       ∙ pass 2 _ (right-length (length ranks) (length xs) (room .ranked))
       ∙ pass 2 _ (right-length (length v) (length o) (own .inverted))
       ∙ pass 3 _ (r .good)
@@ -80,14 +80,14 @@ module _ {o xs ranks p w v e j l : List ℕ} (r : Runnable o xs) (room : GrowRoo
           fits = record {
             vertices = omega (arith, r .vertices, room .parents);
             few = omega (arith, r .few, as-many);
-            faultless = ap (λ (n : ℕ). firstFault n (edges ranks′)) (room .parents) ∙ ranked-faultless r by-rank;
+            faultless = ap (λ (n : ℕ). firstFault n (ties ranks′)) (room .parents) ∙ ranked-faultless r by-rank;
             weights = room .weights ∙ sym (room .parents);
             ends = own .ends ∙ sym (room .parents);
             jump = own .jump ∙ sym (room .parents);
             lower = own .lower ∙ ap₂ (λ (n m : ℕ). n + m) (sym (room .parents)) (sym as-many);
           };
           some = omega (arith, r .some, room .parents);
-          even = ranked-even r by-rank;
+          all = ranked-whole r by-rank;
         }
 
     -- all calls together
@@ -97,5 +97,5 @@ module _ {o xs ranks p w v e j l : List ℕ} (r : Runnable o xs) (room : GrowRoo
     all-grown s a =
         record {
           ranked = by-rank;
-          net = ap (λ (g : NetWithWork). g .net) (first-net first-list s a) ∙ ap₂ (λ (n : ℕ) (ys : List ℕ). netOf n (edges ys)) (room .parents) by-rank;
+          net = ap (λ (g : NetWithWork). g .net) (first-net first-list s a) ∙ ap₂ (λ (n : ℕ) (ys : List ℕ). netOf n (ties ys)) (room .parents) by-rank;
         }

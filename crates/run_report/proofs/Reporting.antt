@@ -7,18 +7,20 @@ use Prim.Native.Nat.{ℕ, zero, suc, _+_, _*_, _≤_}
 use native.Mathlib.Omega.{arith}
 use lib.ListN.{length}
 use borrow.Author.Tests.{le-ltb}
-use Rattle.game.specs.Edge.{Edge, edges}
+use Rattle.game.specs.Edge.{Tie, withoutRows, ties, edges}
 use Rattle.game.specs.Net.{Net, netOf, total}
 use Rattle.game.specs.Graph.{Proper}
+use Rattle.game.proofs.Edges.{edges-ties}
 use Rattle.game.proofs.Sound.{true-sound}
 use Rattle.game.proofs.Forest.{forest-length, forest-sound}
-use Rattle.game.proofs.Weights.{weights-length, weights-charges, charges-count}
+use Rattle.game.proofs.Weights.{weights-length, weights-charges}
 use Rattle.refusal.specs.Limits.{maxTotal}
 use Rattle.refusal.specs.Refusal.{given, first, unless, badCount, firstFault}
 use Rattle.refusal.specs.Verdict.{Verdict, judged}
 use Rattle.refusal.specs.Outcome.{Outcome, ended}
-use Rattle.refusal.proofs.First.{pass, first-pass, first-last, right-length, even-list, unless-accepted}
-use Rattle.refusal.proofs.Fault.{faultless-proper}
+use Rattle.refusal.proofs.First.{pass, first-pass, first-last, right-length, unless-accepted}
+use Rattle.refusal.proofs.Fault.{faultless-proper, charges-most}
+use Rattle.refusal.proofs.ListRefusal.{list-passes}
 use Rattle.net.specs.Damage.{damagedBy, damaged}
 use Rattle.growth.specs.Work.{badWork}
 use Rattle.refusal.specs.DivisionLimits.{tooHeavy}
@@ -27,7 +29,6 @@ use Rattle.decimal.specs.Put.{PutText}
 use Rattle.cost.specs.declared.Totals.{Totals}
 use Rattle.cost.specs.Figures.{totalsOf}
 use Rattle.compare.specs.Compare.{wrongCompared, unlike}
-use Rattle.compare.proofs.Refused.{list-passes}
 use Rattle.report_write.specs.Written.{Written, figures}
 use Rattle.report_refusal.specs.Refused.{reportEarly}
 use Rattle.report.specs.Report.{Lent, wrongFigures, wrongLent, reportRefusal, reportOutcome}
@@ -53,11 +54,14 @@ unfolding answerText decidedText unless judged
 by-number zero q t lines report e h = ap (λ (a : Verdict Totals). answerText a lines) e ∙ h refl
 by-number (suc m) q t lines report e h = ap (λ (a : Verdict Totals). answerText a lines) e
 
--- the net of few edges
-module _ {n : ℕ} {es : List Edge} (proper : Proper n es) (few : length es ≤ edgeCapacity) where
-  own-undamaged : damaged (netOf n es) ≡ false
+-- the net of few ties
+module _ (n : ℕ) (ts : List Tie) (faultless : firstFault n ts ≡ 0) (few : length ts ≤ edgeCapacity) where
+  proper : Proper n (withoutRows ts)
+  proper = faultless-proper n ts faultless
+
+  own-undamaged : damaged (netOf n ts) ≡ false
   unfolding damaged damagedBy netOf
-  own-undamaged = rw (true-sound (forest-sound proper), le-ltb maxTotal (total (netOf n es)) (omega (arith, weights-charges proper, charges-count es)))
+  own-undamaged = rw (true-sound (forest-sound proper), le-ltb maxTotal (total (netOf n ts)) (omega (arith, weights-charges ts proper, charges-most n ts faultless, few)))
 
 -- the tables of a report's own, for n vertices, m edges and k blocks
 pub record ReportRoom (n m k : ℕ) (was : Lent) : Type 0 where
@@ -77,12 +81,12 @@ pub record ReportRoom (n m k : ℕ) (was : Lent) : Type 0 where
 
 module _ {o ranks : List ℕ} {B k : ℕ} {of : Net} (g : Ready o ranks B k of) where
   vertices : length (of .parents) ≡ length o
-  unfolding netOf
+  unfolding netOf edges
   vertices = ap (λ (net : Net). length (net .parents)) (g .own) ∙ forest-length (length o) (edges ranks)
 
   weights : length (of .weights) ≡ length o
   unfolding netOf
-  weights = ap (λ (net : Net). length (net .weights)) (g .own) ∙ weights-length (length o) (edges ranks)
+  weights = ap (λ (net : Net). length (net .weights)) (g .own) ∙ weights-length (length o) (ties ranks)
 
   -- what writing the lines asks
   pub columns : {r t b c : List ℕ} → length r ≡ length o → length t ≡ length o → length b ≡ length o → length c ≡ length o
@@ -122,8 +126,11 @@ module _ {o ranks : List ℕ} {B k : ℕ} {of : Net} (g : Ready o ranks B k of) 
           right-length _ _ (room .ends ∙ v),
           right-length _ _ (room .jump ∙ v),
           right-length _ _ (room .lower ∙ ap (λ (n : ℕ). n + length (edges ranks)) v),
-          even-list ranks (g .even),
+          g .all,
         )
+
+    few-ties : length (ties ranks) ≤ edgeCapacity
+    few-ties = omega (arith, edges-ties ranks, g .few)
 
     -- before the comparison only 22 is given, and the comparison finds the net
     only-heavy : reportEarly of B k ranks (wrongLent of k ranks was) ≡ given (tooHeavy B (of .weights)) 22
@@ -132,12 +139,12 @@ module _ {o ranks : List ℕ} {B k : ℕ} {of : Net} (g : Ready o ranks B k of) 
         pass 1 _ (ap badCount vertices ∙ few-vertices (length o) (g .some) (g .vertices))
         ∙ pass 2 _ lengths-right
         ∙ pass 8 _ (g .limits)
-        ∙ pass 30 _ (ap damaged (g .own) ∙ own-undamaged (faultless-proper (length o) (edges ranks) (g .faultless)) (g .few))
-        ∙ first-pass _ _ (list-passes _ ranks (ap (λ (n : ℕ). firstFault n (edges ranks)) vertices ∙ g .faultless) (omega (arith, g .few)))
+        ∙ pass 30 _ (ap damaged (g .own) ∙ own-undamaged (length o) (ties ranks) (g .faultless) few-ties)
+        ∙ first-pass _ _ (list-passes _ ranks (ap (λ (n : ℕ). firstFault n (ties ranks)) vertices ∙ g .faultless) (omega (arith, g .few)))
         ∙ first-last _
 
-    same : unlike of (edges ranks) ≡ 0
-    same = same-passes of (edges ranks) (g .own ∙ ap (λ (n : ℕ). netOf n (edges ranks)) (sym vertices))
+    same : unlike of (ties ranks) ≡ 0
+    same = same-passes of (ties ranks) (g .own ∙ ap (λ (n : ℕ). netOf n (ties ranks)) (sym vertices))
 
     -- the lines of a net and of the figures of its report
     lines : Net → Written → List ℕ
@@ -150,7 +157,7 @@ module _ {o ranks : List ℕ} {B k : ℕ} {of : Net} (g : Ready o ranks B k of) 
 
       number : reportRefusal of B k ranks was ≡ code
       unfolding reportRefusal code
-      number = ap (λ (m : ℕ). first (m ∷ unlike of (edges ranks) ∷ [])) only-heavy ∙ first-before-zero _ _ same
+      number = ap (λ (m : ℕ). first (m ∷ unlike of (ties ranks) ∷ [])) only-heavy ∙ first-before-zero _ _ same
 
       verdict-is : q ≡ judged code (totalsOf of (edges ranks) B k)
       unfolding reportOutcome
@@ -162,23 +169,23 @@ module _ {o ranks : List ℕ} {B k : ℕ} {of : Net} (g : Ready o ranks B k of) 
       writes z =
           ap (λ (e : Outcome Totals Lent). e .tables .written) ends
           ∙ ap (λ (t : Lent). t .written) (unless-accepted (reportEarly of B k ranks (wrongLent of k ranks was)) was _ (only-heavy ∙ z))
-          ∙ unless-accepted (unlike of (edges ranks)) (was .written) (figures of B k (edges ranks)) same
+          ∙ unless-accepted (unlike of (ties ranks)) (was .written) (figures of B k (edges ranks)) same
 
-      accepted-text : code ≡ 0 → lines of (new .written) ++ totalsText (totalsOf of (edges ranks) B k) ≡ reportText o (edges ranks) B k
-      unfolding reportText lines
+      accepted-text : code ≡ 0 → lines of (new .written) ++ totalsText (totalsOf of (edges ranks) B k) ≡ reportText o (ties ranks) B k
+      unfolding reportText lines edges
       accepted-text z =
           ap (λ (w : Written). lines of w ++ totalsText (totalsOf of (edges ranks) B k)) (writes z)
           ∙ ap (λ (net : Net). lines net (figures net B k (edges ranks)) ++ totalsText (totalsOf net (edges ranks) B k)) (g .own)
 
-      prints : answerText q (lines of (new .written)) ≡ netText o (edges ranks) B k
+      prints : answerText q (lines of (new .written)) ≡ netText o (ties ranks) B k
       unfolding netText code
       prints =
           by-number code q _ _ _ verdict-is accepted-text
-          ∙ ap (λ (net : Net). decidedText (given (tooHeavy B (net .weights)) 22) (reportText o (edges ranks) B k)) (g .own)
+          ∙ ap (λ (net : Net). decidedText (given (tooHeavy B (net .weights)) 22) (reportText o (ties ranks) B k)) (g .own)
 
       pub put-prints : {r t b c text text′ : List ℕ} {end : ℕ} → r ≡ new .written .reach → t ≡ new .written .division .top → b ≡ new .written .division .block
           → c ≡ new .written .blockCount → PutText text 0 (answerText q (linesBelow (rankText o (of .parents) (of .weights) r t b c) (length o))) text′ end
-          → PutText text 0 (netText o (edges ranks) B k) text′ end
+          → PutText text 0 (netText o (ties ranks) B k) text′ end
       unfolding lines
       put-prints {text = text} {text′} {end} er et eb ec p =
           subst (λ (printed : List ℕ). PutText text 0 printed text′ end)

@@ -12,12 +12,13 @@ use Rattle.game.specs.Net.{Net, net}
 use Rattle.game.proofs.Edges.{edges-length}
 use Rattle.growth.specs.Work.{workOf}
 use Rattle.refusal.specs.DivisionLimits.{maxBlocks, badLimits}
+use Rattle.refusal.proofs.First.{list-whole}
 use Rattle.refusal.proofs.DivisionLimits.{limits-not}
 use Rattle.divide.specs.Divide.{divisionOf}
 use Rattle.report_write.specs.Written.{written}
 use Rattle.report.specs.Report.{lent}
 use Rattle.files.specs.Files.{vertexCapacity, edgeCapacity}
-use Rattle.files.specs.Steps.{endCapacity}
+use Rattle.files.specs.Steps.{numberCapacity}
 use Rattle.run_report.specs.Steps.{Runnable, GrowRoom, Ready}
 use Rattle.run_report.proofs.Growing.{GrowWork}
 use Rattle.run_report.proofs.Reporting.{ReportRoom}
@@ -55,13 +56,13 @@ blocks-fit B k good e = omega (arith, limits-not B k good .3)
 
 -- the tables of growing, by the edges that the code has counted
 module _ {o xs : List ℕ} (r : Runnable o xs) where
-  pub ends-fit : length xs ≤ endCapacity
-  ends-fit = omega (arith, r .few, r .even, edges-length xs)
+  pub numbers-fit : length xs ≤ numberCapacity
+  numbers-fit = omega (arith, r .few, list-whole xs (r .all), edges-length xs)
 
-  pub grow-room : GrowRoom o xs (part endCapacity (length xs)) (net (part vertexCapacity (length o)) (part vertexCapacity (length o)))
+  pub grow-room : GrowRoom o xs (part numberCapacity (length xs)) (net (part vertexCapacity (length o)) (part vertexCapacity (length o)))
   grow-room =
       let v = part-length vertexCapacity (length o) (r .vertices) in
-      record { ranked = part-length endCapacity (length xs) ends-fit; parents = v; weights = v }
+      record { ranked = part-length numberCapacity (length xs) numbers-fit; parents = v; weights = v }
 
   module _ {m : ℕ} (counted : m ≡ length (edges xs)) where
     pub both-fit : length o + m ≤ vertexCapacity + edgeCapacity

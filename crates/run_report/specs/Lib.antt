@@ -1,3 +1,3 @@
--- What is printed of an order and edges.
+-- What is printed of an order and ties.
 pub mod Steps
 pub mod Text

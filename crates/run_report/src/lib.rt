@@ -1,7 +1,7 @@
 // What a run prints of an order and edges that are not refused: the net is grown, divided and reported on. The tables of a step are its
-// own, zeroed and at their full length: 1,000 vertices, 4,000 edges and 1,000 blocks. It lends the part of each that the run's own vertices,
-// edges and blocks take.
-use files::EDGE_ENDS;
+// own, zeroed and at their full length: 1,000 vertices, 4,000 edges and 1,000 blocks. It lends the part of each that the run's own
+// vertices, edges and blocks take.
+use files::EDGE_NUMBERS;
 use files::EDGES;
 use files::VERTICES;
 use table::wide;
@@ -9,7 +9,7 @@ ghost use mathlib.Core.Path.{_≡_};
 ghost use mathlib.Core.Bool.{false};
 ghost use Prim.Native.Nat.{_≤_};
 ghost use lib.ListN.{length};
-ghost use Rattle.game.specs.Edge.{edges as edgesOf};
+ghost use Rattle.game.specs.Edge.{ties as tiesOf};
 ghost use Rattle.game.specs.Net.{net};
 ghost use Rattle.decimal.specs.Put.{PutText};
 ghost use Rattle.refusal.specs.DivisionLimits.{badLimits};
@@ -64,7 +64,7 @@ fn report_on(
 ) -> usize
     requires { ⌜ Ready (now order) (now ranked) limit blocks (net (now parents) (now weights)) ⌝ }
     requires { ⌜ textRoom ≤ length (now text) ⌝ }
-    ensures { λ r. ⌜ PutText (now (text .entry)) 0 (netText (now (order .entry)) (edgesOf (now (ranked .entry))) limit blocks) (now (text .exit)) r ⌝ }
+    ensures { λ r. ⌜ PutText (now (text .entry)) 0 (netText (now (order .entry)) (tiesOf (now (ranked .entry))) limit blocks) (now (text .exit)) r ⌝ }
 {
     let n = order.len();
     let m = edge::count(ranked);
@@ -121,24 +121,24 @@ pub fn divide(order: &[u32], edges: &[u32], limit: u32, blocks: u32, text: &mut 
     requires { ⌜ Runnable (now order) (now edges) × (badLimits limit blocks ≡ false) ⌝ }
     requires { ⌜ textRoom ≤ length (now text) ⌝ }
     ensures { λ r. ⌜
-        PutText (now (text .entry)) 0 (netText (now (order .entry)) (edgesOf (relabelled (now (order .entry)) (now (edges .entry)))) limit blocks)
+        PutText (now (text .entry)) 0 (netText (now (order .entry)) (tiesOf (relabelled (now (order .entry)) (now (edges .entry)))) limit blocks)
         (now (text .exit)) r ⌝ }
 {
     let n = order.len();
-    let edge_ends = edges.len();
-    let mut ranked = [0u32; EDGE_ENDS];
+    let numbers = edges.len();
+    let mut ranked = [0u32; EDGE_NUMBERS];
     let mut parents = [0u32; VERTICES];
     let mut weights = [0u32; VERTICES];
     grow_ranked(
         order,
         edges,
-        &mut ranked[..edge_ends],
+        &mut ranked[..numbers],
         &mut parents[..n],
         &mut weights[..n],
     );
     report_on(
         order,
-        &ranked[..edge_ends],
+        &ranked[..numbers],
         &parents[..n],
         &weights[..n],
         limit,

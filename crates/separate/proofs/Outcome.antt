@@ -6,7 +6,7 @@ use mathlib.Core.List.{List, [], _∷_}
 use Prim.Native.Nat.{ℕ}
 use native.Mathlib.Omega.{arith}
 use lib.ListN.{length}
-use Rattle.game.specs.Edge.{edges}
+use Rattle.game.specs.Edge.{ties}
 use Rattle.game.specs.Net.{Net, netOf}
 use Rattle.refusal.specs.Refusal.{given, first, unless}
 use Rattle.refusal.specs.Verdict.{Verdict, refused, judged}
@@ -29,7 +29,7 @@ module _ (of : Net) (a b : ℕ) (xs : List ℕ) (was : SeparateTables) where
   early = separateEarly of a b xs (wrongSeparate of xs was)
 
   late : ℕ
-  late = grownRefusal of a b (edges xs)
+  late = grownRefusal of a b (ties xs)
 
   -- refused by reading alone: the number, and every table as it was
   pub ends-early : {code : ℕ} {wrong : Bool} → code ≡ separateEarly of a b xs wrong → wrong ≡ wrongSeparate of xs was → (code ≡ 0 → ⊥)
@@ -57,7 +57,7 @@ module _ (of : Net) (a b : ℕ) (xs : List ℕ) (was : SeparateTables) where
     grown-end : {v : Verdict Separator} {listed : List ℕ} {new : Net} {work : Work}
         → v ≡ judged late (separatorOf (commonAncestors (of .parents) a b))
         → listed ≡ unless late (was .listed) (atFront (commonAncestors (of .parents) a b) (was .listed))
-        → new ≡ netOf (length (of .parents)) (edges xs) → work ≡ cleared (was .work)
+        → new ≡ netOf (length (of .parents)) (ties xs) → work ≡ cleared (was .work)
         → ended v (separateTables listed new work) ≡ separateOutcome of a b xs was
     unfolding separateOutcome separateRefusal early late
     grown-end v l n k =
@@ -65,7 +65,7 @@ module _ (of : Net) (a b : ℕ) (xs : List ℕ) (was : SeparateTables) where
         ((λ i. separateTables (l i) (n i) (k i)) ∙ sym (unless-accepted early was _ z))
 
     -- refused by the comparison: 23
-    pub ends-late : {same : Bool} {new : Net} {work : Work} → Told of (edges xs) (was .work) same new work → same ≡ false
+    pub ends-late : {same : Bool} {new : Net} {work : Work} → Told of (ties xs) (was .work) same new work → same ≡ false
         → ended (refused 23) (separateTables (was .listed) new work) ≡ separateOutcome of a b xs was
     unfolding late grownRefusal
     ends-late c differs =
@@ -74,14 +74,14 @@ module _ (of : Net) (a b : ℕ) (xs : List ℕ) (was : SeparateTables) where
         (sym (unless-refused late (was .listed) _ (λ e. omega (arith, is))))
         (c .net) (c .clear)
       where
-        differ : unlike of (edges xs) ≡ 23
-        differ = found-other of (edges xs) (c .answer) differs
+        differ : unlike of (ties xs) ≡ 23
+        differ = found-other of (ties xs) (c .answer) differs
 
         is : late ≡ 23
-        is = first-stop (unlike of (edges xs)) _ (λ e. omega (arith, differ)) ∙ differ
+        is = first-stop (unlike of (ties xs)) _ (λ e. omega (arith, differ)) ∙ differ
 
     -- not refused by it: as listing ends, 31 among it
-    pub ends-listed : {same : Bool} {new : Net} {work : Work} {v : Verdict Separator} {listed : List ℕ} → Told of (edges xs) (was .work) same new work → same ≡ true
+    pub ends-listed : {same : Bool} {new : Net} {work : Work} {v : Verdict Separator} {listed : List ℕ} → Told of (ties xs) (was .work) same new work → same ≡ true
         → ended v listed ≡ listOutcome (of .parents) a b (was .listed)
         → ended v (separateTables listed new work) ≡ separateOutcome of a b xs was
     unfolding listOutcome late grownRefusal
@@ -92,4 +92,4 @@ module _ (of : Net) (a b : ℕ) (xs : List ℕ) (was : SeparateTables) where
         (c .net) (c .clear)
       where
         is : late ≡ given (related (of .parents) a b) 31
-        is = first-pass (unlike of (edges xs)) _ (same-passes of (edges xs) (found-own of (edges xs) (c .answer) found)) ∙ first-last (given (related (of .parents) a b) 31)
+        is = first-pass (unlike of (ties xs)) _ (same-passes of (ties xs) (found-own of (ties xs) (c .answer) found)) ∙ first-last (given (related (of .parents) a b) 31)

@@ -3,21 +3,21 @@
 use mathlib.Core.Path.{_≡_, refl}
 use mathlib.Core.Bool.{Bool, false, not, _||_}
 use mathlib.Core.List.{List}
-use Prim.Native.Nat.{ℕ, _+_, _%_, _<_}
+use Prim.Native.Nat.{ℕ, _+_, _<_}
 use lib.Dec.{eqb, leb}
 use lib.ListN.{length}
 use borrow.Author.Tests.{leb-false}
-use Rattle.game.specs.Edge.{edges}
+use Rattle.game.specs.Edge.{ties, edges}
 use Rattle.game.specs.Net.{Net, net, total}
 use Rattle.game.proofs.Bools.{or-neither}
 use Rattle.game.proofs.Sound.{true-sound}
 use Rattle.refusal.specs.Refusal.{wrongLength, notWhole, firstFault}
-use Rattle.refusal.proofs.First.{first-none, given-none, good-count, length-right, list-even}
+use Rattle.refusal.proofs.First.{first-none, given-none, good-count, length-right}
 use Rattle.net.specs.Damage.{damaged}
 use Rattle.net.proofs.Scan.{undamaged}
 use Rattle.growth.specs.Work.{workOf, badWork}
 use Rattle.compare.specs.Compare.{wrongCompared}
-use Rattle.compare.proofs.Refused.{list-passed}
+use Rattle.refusal.proofs.ListRefusal.{list-passed}
 use Rattle.compare.proofs.Ready.{ComparedLengths, compared-lengths, comparable}
 use Rattle.ancestry.specs.Steps.{Walkable}
 use Rattle.compare.specs.OwnSteps.{Tellable}
@@ -36,7 +36,7 @@ wrong-lengths p w xs l cp cw e j lo k z q = rw (z, q, k) refl
 pub record Lengths (of : Net) (xs : List ℕ) (was : SeparateTables) : Type 0 where
   pub weights : length (of .weights) ≡ length (of .parents)
   pub listed : length (was .listed) ≡ length (of .parents)
-  pub even : length xs % 2 ≡ 0
+  pub all : notWhole xs ≡ false
   pub compared : ComparedLengths (length (of .parents)) (length (edges xs)) (was .compared) (was .work)
 
 pub lengths-right : (of : Net) (xs : List ℕ) (was : SeparateTables) → wrongSeparate of xs was ≡ false → Lengths of xs was
@@ -48,7 +48,7 @@ lengths-right of xs was e =
     record {
       weights = length-right _ _ (c .0);
       listed = length-right _ _ (c .1);
-      even = list-even xs (a .1);
+      all = a .1;
       compared = compared-lengths (length (of .parents)) (length (edges xs)) (was .compared) (was .work) (b .1);
     }
 
@@ -59,7 +59,7 @@ pub record Ready (of : Net) (a b : ℕ) (xs : List ℕ) (was : SeparateTables) :
   pub one : a < length (of .parents)
   pub other : b < length (of .parents)
   pub tells : Tellable of xs (was .compared) (was .work)
-  pub faultless : firstFault (length (of .parents)) (edges xs) ≡ 0
+  pub faultless : firstFault (length (of .parents)) (ties xs) ≡ 0
 
 pub ready : (of : Net) (a b : ℕ) (xs : List ℕ) (was : SeparateTables) → separateEarly of a b xs (wrongSeparate of xs was) ≡ 0 → Ready of a b xs was
 unfolding separateEarly damaged
@@ -77,6 +77,6 @@ ready of a b xs was z =
       walkable = record { known = true-sound (undamaged (of .parents) (total of) (given-none _ 29 (c30 .0)) .0); few = n .1 };
       one = leb-false (length (of .parents)) a (ranks .0);
       other = leb-false (length (of .parents)) b (ranks .1);
-      tells = record { compares = comparable of xs (was .compared) (was .work) (n .1) (l .weights) (l .compared) (list .0); some = n .0; even = l .even };
+      tells = record { compares = comparable of xs (was .compared) (was .work) (n .1) (l .weights) (l .compared) (list .0); some = n .0; all = l .all };
       faultless = list-passed (length (of .parents)) xs (list .0) .0;
     }

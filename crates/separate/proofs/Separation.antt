@@ -8,7 +8,7 @@ use native.Mathlib.Numerals.{add-one}
 use native.Mathlib.Omega.{arith}
 use lib.ListN.{length, getD, take, drop}
 use lib.Seq.{take-append-seam}
-use Rattle.game.specs.Edge.{Edge, edges}
+use Rattle.game.specs.Edge.{Edge, ties, edges}
 use Rattle.game.specs.Game.{absent, forest}
 use Rattle.game.specs.Net.{Net, netOf}
 use Rattle.game.specs.Graph.{Proper}
@@ -17,7 +17,7 @@ use Rattle.game.proofs.Ancestors.{ancestor-climbs}
 use Rattle.refusal.specs.Refusal.{unless}
 use Rattle.refusal.specs.Verdict.{accepted}
 use Rattle.refusal.proofs.First.{first-none, given-none}
-use Rattle.refusal.proofs.Fault.{faultless-proper}
+use Rattle.refusal.proofs.Fault.{list-proper}
 use Rattle.refusal.proofs.Ends.{accepted-none, accepted-values}
 use Rattle.compare.proofs.Unlike.{passed-same}
 use Rattle.ancestry.specs.declared.Lowest.the-variants.{Vertex, Nothing}
@@ -101,7 +101,7 @@ module _ (of : Net) (a b : ℕ) (xs : List ℕ) (was : SeparateTables) (its : Se
   unfolding separateRefusal
   early = first-none _ _ none-refused .0
 
-  late : grownRefusal of a b (edges xs) ≡ 0
+  late : grownRefusal of a b (ties xs) ≡ 0
   unfolding separateRefusal
   late = first-none _ _ (first-none _ _ none-refused .1) .0
 
@@ -117,18 +117,18 @@ module _ (of : Net) (a b : ℕ) (xs : List ℕ) (was : SeparateTables) (its : Se
   accepted-lowest = ap (λ (s : Separator). s .lowest) (sym (accepted-values (separateRefusal of a b xs was) (separatorOf (commonAncestors (of .parents) a b)) answer))
 
   pub separate-separates : Separates (of .parents) (edges xs) a b (its .lowest) (take (its .count) (separateOutcome of a b xs was .tables .listed))
-  unfolding netOf grownRefusal
+  unfolding netOf grownRefusal edges
   separate-separates =
       rw (accepted-lists, accepted-lowest)
       (subst (λ (p : List ℕ). Separates p (edges xs) a b (lowestOf (commonAncestors p a b)) (commonAncestors p a b)) (sym own)
-      (common-separates (subst Walkable own (r .walkable)) (omega (arith, r .walkable .few)) (faultless-proper (length (of .parents)) (edges xs) (r .faultless))
+      (common-separates (subst Walkable own (r .walkable)) (omega (arith, r .walkable .few)) (list-proper (length (of .parents)) xs (r .faultless))
       (subst (λ (p : List ℕ). related p a b ≡ false) own apart)))
     where
       r : Ready of a b xs was
       r = ready of a b xs was early
 
       own : of .parents ≡ forest (length (of .parents)) (edges xs)
-      own = ap (λ (of : Net). of .parents) (passed-same of (edges xs) (first-none _ _ late .0))
+      own = ap (λ (of : Net). of .parents) (passed-same of (ties xs) (first-none _ _ late .0))
 
       apart : related (of .parents) a b ≡ false
       apart = given-none _ 30 (first-none _ _ (first-none _ _ late .1) .0)

@@ -5,16 +5,17 @@ use mathlib.Core.List.{List, [], _∷_}
 use Prim.Native.Nat.{ℕ}
 use lib.ListN.{replicate}
 use Rattle.game.specs.Table.{tabulate, sum, member, filtered}
-use Rattle.game.specs.Edge.{edges}
+use Rattle.game.specs.Edge.{ties, edges}
 use Rattle.game.specs.Game.{absent, forest}
 use Rattle.game.specs.Tree.{sound, under}
 use Rattle.game.specs.Net.{Net, net, netOf, weights}
-use Rattle.refusal.specs.Refusal.{given, first, unless, badCount, wrongLength, notWhole, fault, firstFault}
+use Rattle.refusal.specs.Limits.{outside}
+use Rattle.refusal.specs.Refusal.{given, first, unless, badCount, wrongLength, notWhole, edgeFault, fault, firstFault, listRefusal}
 use Rattle.refusal.specs.Verdict.{accepted, refused, judged}
 use Rattle.refusal.specs.Outcome.{Outcome, ended}
 use Rattle.net.specs.Damage.{damagedBy, damaged}
 use Rattle.growth.specs.Work.{workOf, badWork, zeros, cleared}
-use Rattle.compare.specs.Likeness.{listRefusal, sameTable, sameNet}
+use Rattle.compare.specs.Likeness.{sameTable, sameNet}
 use Rattle.compare.specs.Compare.{wrongCompared, unlike}
 use Rattle.game.specs.Case.{whole, own, other, others}
 use Rattle.ancestry.specs.declared.Lowest.the-variants.{Vertex, Nothing}
@@ -26,7 +27,7 @@ use Rattle.separate.specs.Separate.{SeparateTables, separateTables, wron
 
 -- the list of the whole case with a fault, 5, in front
 faulty : List ℕ
-faulty = 0 ∷ 0 ∷ 0 ∷ 4 ∷ 1 ∷ 3 ∷ 1 ∷ 4 ∷ 2 ∷ 5 ∷ 2 ∷ 0 ∷ []
+faulty = 0 ∷ 0 ∷ 1 ∷ 0 ∷ 4 ∷ 1 ∷ 1 ∷ 3 ∷ 1 ∷ 1 ∷ 4 ∷ 1 ∷ 2 ∷ 5 ∷ 1 ∷ 2 ∷ 0 ∷ 1 ∷ []
 
 -- P5: 0-2 among three vertices
 trees : Net
@@ -39,13 +40,13 @@ lent n m = separateTables (replicate n 7) (net (replicate n 7) (replicate n 7)) 
 left : ℕ → ℕ → List ℕ → Net → SeparateTables
 left n m ys grown = separateTables ys grown (workOf (replicate n 0) (replicate n 0) (replicate m 0))
 
--- 0 and 1; 3 and 2; 0 and 1 of P5; 31, of a vertex above, below, and the same; a rank of 6, before the fault is seen; the fault; another list,
--- before 31 is seen; a table that is too short
+-- 0 and 1; 3 and 2; 0 and 1 of P5; 31, of a vertex above, below, and the same; a rank of 6, before the fault is seen; the fault; another
+-- list, before 31 is seen; a table that is too short
 pub computed : List (Outcome Separator SeparateTables)
 computed =
     separateOutcome whole 0 1 own (lent 6 12)
     ∷ separateOutcome whole 3 2 own (lent 6 12)
-    ∷ separateOutcome trees 0 1 (0 ∷ 2 ∷ []) (lent 3 4)
+    ∷ separateOutcome trees 0 1 (0 ∷ 2 ∷ 1 ∷ []) (lent 3 4)
     ∷ separateOutcome whole 0 4 own (lent 6 12)
     ∷ separateOutcome whole 4 1 own (lent 6 12)
     ∷ separateOutcome whole 3 3 own (lent 6 12)
@@ -70,5 +71,5 @@ printed =
     ∷ []
 
 pub example : computed ≡ printed
-unfolding computed printed whole own other others faulty trees lent left separateOutcome separateRefusal separateEarly grownRefusal wrongSeparate wrongCompared badWork listRefusal unlike sameNet sameTable first given unless judged badCount wrongLength notWhole fault firstFault damaged damagedBy sound sum cleared zeros netOf forest weights tabulate edges commonAncestors related under atFront separatorOf lowestOf member filtered
+unfolding computed printed whole own other others faulty trees lent left separateOutcome separateRefusal separateEarly grownRefusal wrongSeparate wrongCompared badWork listRefusal unlike sameNet sameTable first given unless judged badCount wrongLength notWhole edgeFault outside fault firstFault damaged damagedBy sound sum cleared zeros netOf forest weights tabulate ties edges commonAncestors related under atFront separatorOf lowestOf member filtered
 example = refl

@@ -1,4 +1,4 @@
-// What listing the vertices between two is refused for by reading alone: 1, 2, 30, 4 of a rank, 4 or 5, and 20.
+// What listing the vertices between two is refused for by reading alone: 1, 2, 30, 4 of a rank, 4, 5 or 32, and 20.
 use net::Net;
 use table::wide;
 ghost use mathlib.Core.Path.{_≡_};
@@ -32,5 +32,5 @@ pub fn separate_early(
     if (n <= wide(one)) | (n <= wide(other)) {
         return 4;
     }
-    compare::list_refusal(n, edges)
+    refusal::list_refusal(n, edges)
 }

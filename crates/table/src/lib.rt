@@ -1,7 +1,9 @@
-// Numbers, as places in tables and as entries of them, and whole tables: filled with one number, found to hold one alone, or copied.
+// Numbers, as places in tables and as entries of them, and whole tables: filled with one number, found to hold one alone, copied, or added
+// up.
 ghost use mathlib.Core.Path.{_≡_};
 ghost use mathlib.Core.Bool.{true};
-ghost use Prim.Native.Nat.{_+_, _^_, _<_, min, max};
+ghost use mathlib.Core.List.{zipWith};
+ghost use Prim.Native.Nat.{ℕ, _+_, _^_, _<_, min, max};
 ghost use lib.ListN.{length, getD, set, replicate};
 
 // A number as a place in a table.
@@ -90,6 +92,18 @@ pub fn is_all(table: &[u32], x: u32) -> bool
         i += 1;
     }
     all
+}
+
+// Adds each entry of a second table to a first.
+pub fn add_all(table: &mut [u32], other: &[u32])
+    requires { ⌜ (length (now table) ≡ length (now other)) × ((v : ℕ) → getD (now table) v 0 + getD (now other) v 0 < 2 ^ 32) ⌝ }
+    ensures { λ _. ⌜ now (table .exit) ≡ zipWith _+_ (now (table .entry)) (now (other .entry)) ⌝ }
+{
+    let mut i = 0;
+    while i < other.len() {
+        table[i] += other[i];
+        i += 1;
+    }
 }
 
 // Copies a table.

@@ -5,7 +5,7 @@ use Rattle.refusal.proofs.First.{pass, stop, right-length, wrong-length, good-c
 use Rattle.net.proofs.Scan.{undamaged}
 use Rattle.growth.proofs.Tests.{work-length, damage}
 use Rattle.add_refusal.specs.Refused.{addRefusal}
-use Rattle.add_refusal.proofs.Steps.{tables-refused, tables-right, heavy-told, light-few}
+use Rattle.add_refusal.proofs.Steps.{tables-refused, tables-right, heavy-told}
 use borrow.Author.Needs.{needs}
 use Rattle.add_refusal.proofs.read_tables.Statement.{statement}
 use Rattle.add_refusal.proofs.read_tables.Tie as tie
@@ -95,19 +95,10 @@ returns-5 c =
     ∙ pass _ _ (work-length _ _ (at-count .count .ensures) (sym (at-bad-work .bad-work .ensures) ∙ at-if4 .if4 .left))
     ∙ stop _ _ (damage _ (at-of .of .ensures) (sym (at-is-damaged .is-damaged .ensures) ∙ c .if5 .taken)))
 
-add-total : tie.Need-add-total
-add-total c =
-    let at-if5 = c .before in
-    let at-is-damaged = at-if5 .before in
-    let at-count = at-is-damaged .before .before .before .before in
-    let s : tie.Start = at-count .before .before .before .before .before .before .before .before .before .before .before .before in
-    search (needs, undamaged _ _ (sym (at-is-damaged .is-damaged .ensures) ∙ at-if5 .if5 .left) .1, at-count .count .ensures, edges-length (s .args .edges .now))
-
 returns-6 : tie.Need-returns-6
 unfolding addRefusal
 returns-6 c =
-    let at-if5 = c .before in
-    let at-is-damaged = at-if5 .before in
+    let at-is-damaged = c .before in
     let at-of = at-is-damaged .before in
     let at-if4 = at-of .before in
     let at-bad-work = at-if4 .before in
@@ -123,9 +114,9 @@ returns-6 c =
     ∙ pass _ _ (right-length _ _ (at-if2 .if2 .left))
     ∙ pass _ _ (sym (at-not-whole .not-whole .ensures) ∙ at-if3 .if3 .left)
     ∙ pass _ _ (work-length _ _ (at-count .count .ensures) (sym (at-bad-work .bad-work .ensures) ∙ at-if4 .if4 .left))
-    ∙ pass _ _ (damage _ (at-of .of .ensures) (sym (at-is-damaged .is-damaged .ensures) ∙ at-if5 .if5 .left))
-    ∙ heavy-told _ _ (at-of .of .ensures) (at-count .count .ensures))
-    (light-few _ _ (at-count .count .ensures))
+    ∙ pass _ _ (damage _ (at-of .of .ensures) (sym (at-is-damaged .is-damaged .ensures) ∙ c .if5 .left))
+    ∙ heavy-told _ _ (at-of .of .ensures))
+    (undamaged _ _ (sym (at-is-damaged .is-damaged .ensures) ∙ c .if5 .left) .1)
 
 pub read-tables-spec : {M : Type 1} → statement M
 read-tables-spec =
@@ -143,5 +134,4 @@ read-tables-spec =
     of-requires
     is-damaged-requires
     returns-5
-    add-total
     returns-6)

@@ -2,9 +2,9 @@ use mathlib.Core.Path.{ap, _∙_}
 use Prim.Native.Nat.{_*_}
 use native.Mathlib.Omega.{arith}
 use borrow.Author.Needs.{needs}
-use Rattle.game.specs.Edge.{edges}
+use Rattle.game.specs.Edge.{ties}
 use Rattle.game.proofs.Edges.{edges-length}
-use Rattle.edge.proofs.Reading.{edges-behind, part-behind}
+use Rattle.edge.proofs.Reading.{ties-behind, part-behind}
 use Rattle.edge.proofs.from.Statement.{statement}
 use Rattle.edge.proofs.from.Tie as tie
 
@@ -26,7 +26,7 @@ part-result-end c = search needs
 returns : tie.Need-returns
 returns c =
     let a = c .before .args in
-    ap edges (part-behind (a .list .now) (2 * a .i)) ∙ edges-behind (a .list .now) (a .i) (c .before .pre)
+    ap ties (part-behind (a .list .now) (3 * a .i)) ∙ ties-behind (a .list .now) (a .i) (c .before .pre)
 
 pub from-spec : {M : Type 1} → statement M
 from-spec = tie.close (tie.spec mul-result mul-result-2 sub-result part-result-start part-result-end returns)

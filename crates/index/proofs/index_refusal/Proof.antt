@@ -2,7 +2,7 @@ use mathlib.Core.Path.{sym, _∙_}
 use native.Mathlib.Omega.{arith}
 use borrow.Author.Needs.{needs}
 use borrow.Author.Tests.{eq-eqb, ne-eqb}
-use Rattle.game.specs.Edge.{edges}
+use Rattle.game.specs.Edge.{ties}
 use Rattle.game.proofs.Edges.{edges-length}
 use Rattle.refusal.proofs.First.{pass, stop, first-end, first-pass, first-stop, right-length, wrong-length}
 use Rattle.index.specs.Index.{vertices}
@@ -151,8 +151,8 @@ returns-7 c =
     ∙ pass _ _ (sym (at-not-whole .not-whole .ensures) ∙ at-if3 .if3 .left)
     ∙ pass _ _ (sym (at-not-whole2 .not-whole2 .ensures) ∙ at-if4 .if4 .left)
     ∙ pass _ _ (right-length _ _ (omega (arith, at-if5 .if5 .left, both-length (at-args .args .old .now) (at-args .args .added .now) (at-count .count .ensures) (at-count2 .count2 .ensures))))
-    ∙ first-stop _ _ (λ z. c .if7 .taken (at-list-fault2 .list-fault2 .ensures ∙ sym (fault-second _ (edges (at-args .args .old .now)) (edges (at-args .args .added .now)) (sym (at-list-fault .list-fault .ensures) ∙ at-if6 .if6 .left)) ∙ z))
-    ∙ fault-second _ (edges (at-args .args .old .now)) (edges (at-args .args .added .now)) (sym (at-list-fault .list-fault .ensures) ∙ at-if6 .if6 .left)
+    ∙ first-stop _ _ (λ z. c .if7 .taken (at-list-fault2 .list-fault2 .ensures ∙ sym (fault-second _ (ties (at-args .args .old .now)) (ties (at-args .args .added .now)) (sym (at-list-fault .list-fault .ensures) ∙ at-if6 .if6 .left)) ∙ z))
+    ∙ fault-second _ (ties (at-args .args .old .now)) (ties (at-args .args .added .now)) (sym (at-list-fault .list-fault .ensures) ∙ at-if6 .if6 .left)
     ∙ sym (at-list-fault2 .list-fault2 .ensures))
 
 returns-8 : tie.Need-returns-8
@@ -179,7 +179,7 @@ returns-8 c =
     ∙ pass _ _ (sym (at-not-whole .not-whole .ensures) ∙ at-if3 .if3 .left)
     ∙ pass _ _ (sym (at-not-whole2 .not-whole2 .ensures) ∙ at-if4 .if4 .left)
     ∙ pass _ _ (right-length _ _ (omega (arith, at-if5 .if5 .left, both-length (at-args .args .old .now) (at-args .args .added .now) (at-count .count .ensures) (at-count2 .count2 .ensures))))
-    ∙ first-pass _ _ (fault-second _ (edges (at-args .args .old .now)) (edges (at-args .args .added .now)) (sym (at-list-fault .list-fault .ensures) ∙ at-if6 .if6 .left) ∙ sym (at-list-fault2 .list-fault2 .ensures) ∙ at-if7 .if7 .left)
+    ∙ first-pass _ _ (fault-second _ (ties (at-args .args .old .now)) (ties (at-args .args .added .now)) (sym (at-list-fault .list-fault .ensures) ∙ at-if6 .if6 .left) ∙ sym (at-list-fault2 .list-fault2 .ensures) ∙ at-if7 .if7 .left)
     ∙ stop _ _ (too-many _ _ (at-count .count .ensures) (at-count2 .count2 .ensures) (c .if8 .taken)))
 
 returns-9 : tie.Need-returns-9
@@ -206,7 +206,7 @@ returns-9 c =
     ∙ pass _ _ (sym (at-not-whole .not-whole .ensures) ∙ at-if3 .if3 .left)
     ∙ pass _ _ (sym (at-not-whole2 .not-whole2 .ensures) ∙ at-if4 .if4 .left)
     ∙ pass _ _ (right-length _ _ (omega (arith, at-if5 .if5 .left, both-length (at-args .args .old .now) (at-args .args .added .now) (at-count .count .ensures) (at-count2 .count2 .ensures))))
-    ∙ first-pass _ _ (fault-second _ (edges (at-args .args .old .now)) (edges (at-args .args .added .now)) (sym (at-list-fault .list-fault .ensures) ∙ at-if6 .if6 .left) ∙ sym (at-list-fault2 .list-fault2 .ensures) ∙ at-if7 .if7 .left)
+    ∙ first-pass _ _ (fault-second _ (ties (at-args .args .old .now)) (ties (at-args .args .added .now)) (sym (at-list-fault .list-fault .ensures) ∙ at-if6 .if6 .left) ∙ sym (at-list-fault2 .list-fault2 .ensures) ∙ at-if7 .if7 .left)
     ∙ pass _ _ (not-many _ _ (at-count .count .ensures) (at-count2 .count2 .ensures) (c .if8 .left))
     ∙ first-end)
 

@@ -1,6 +1,7 @@
 use native.Mathlib.Omega.{arith}
 use mathlib.Core.Path.{refl, sym, _∙_}
 use Rattle.game.proofs.Sound.{true-sound}
+use Rattle.game.proofs.Tables.{sum-entry}
 use Rattle.moved.specs.Answer.{verdict}
 use Rattle.refusal.proofs.Ends.{ends-refused, ends-accepted}
 use Rattle.join.specs.Join.{joinOutcome}
@@ -33,10 +34,11 @@ returns : tie.Need-returns
 unfolding verdict joinOutcome
 returns c = ends-refused _ _ _ _ (c .before .join-refusal .ensures) (λ z. c .if1 .taken (c .before .join-refusal .ensures ∙ z)) refl
 
-add-table-requires : tie.Need-add-table-requires
-add-table-requires c κs =
+add-all-requires : tie.Need-add-all-requires
+add-all-requires c κs =
+    let s : tie.Start = c .before .before .before .before .before .before .before .before .before .before .before .before .before .before .before in
     let a = joinable _ _ (sym (c .before .before .join-refusal .ensures) ∙ c .before .if1 .left) in
-    (a .net .long ∙ sym (a .second .long ∙ a .same), omega (arith, a .light))
+    (a .net .long ∙ sym (a .second .long ∙ a .same), λ v. omega (arith, sum-entry (s .args .weights .now) v, sum-entry (s .args .other-weights .now) v, a .light))
 
 file-links-requires : tie.Need-file-links-requires
 file-links-requires c κs =
@@ -45,8 +47,8 @@ file-links-requires c κs =
     let a = joinable _ _ (sym (at-join-refusal .join-refusal .ensures) ∙ at-if1 .if1 .left) in
     (a .work .ends, (a .same, (a .net .few, (true-sound (a .net .sound), (true-sound (a .second .sound), a .work .lower)))))
 
-regrow-requires : tie.Need-regrow-requires
-regrow-requires c κs =
+grow-requires : tie.Need-grow-requires
+grow-requires c κs =
     let at-file-links = c .before .before .before .before .before .before .before .before in
     let at-if1 = at-file-links .before .before .before .before .before .before .before .before in
     let at-join-refusal = at-if1 .before in
@@ -74,16 +76,16 @@ same-length-10 c = search needs
 returns-2 : tie.Need-returns-2
 unfolding verdict joinOutcome
 returns-2 c =
-    let at-regrow = c .before .before .before .before .before .before .before .before .before in
-    let at-add-table = at-regrow .before .before .before .before .before .before .before .before .before .before .before .before .before .before .before in
-    let at-if1 = at-add-table .before .before in
+    let at-grow = c .before .before .before .before .before .before .before .before .before in
+    let at-add-all = at-grow .before .before .before .before .before .before .before .before .before .before .before .before .before .before .before in
+    let at-if1 = at-add-all .before .before in
     let at-join-refusal = at-if1 .before in
     let z = sym (at-join-refusal .join-refusal .ensures) ∙ at-if1 .if1 .left in
     let a = joinable _ _ z in
-    let f : tie.After-file-links = at-regrow .before .before .before .before .before .before .before .before .before in
-    let (g, d) = at-regrow .regrow .ensures in
+    let f : tie.After-file-links = at-grow .before .before .before .before .before .before .before .before .before in
+    let (g, d) = at-grow .grow .ensures in
     rw (c .accepted .ensures) (ends-accepted _ _ _ _ (join-moved a (f .file-links .ensures) g d refl) z
-    (join-ends a (f .file-links .ensures) g (at-add-table .add-table .ensures) (f .file-links .kept .1 .1 .0) (f .file-links .kept .1 .1 .1 .0)))
+    (join-ends a (f .file-links .ensures) g (at-add-all .add-all .ensures) (f .file-links .kept .1 .1 .0) (f .file-links .kept .1 .1 .1 .0)))
 
 pub join-spec : {M : Type 1} → statement M
 join-spec =
@@ -96,9 +98,9 @@ join-spec =
     same-length-4
     same-length-5
     returns
-    add-table-requires
+    add-all-requires
     file-links-requires
-    regrow-requires
+    grow-requires
     accepted-requires
     same-length-6
     same-length-7

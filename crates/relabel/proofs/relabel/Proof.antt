@@ -1,7 +1,7 @@
 use borrow.Author.Needs.{needs}
 use Rattle.refusal.specs.Answer.{verdict}
 use Rattle.relabel.proofs.Refused.{relabel-known}
-use Rattle.relabel.proofs.Relabelled.{inverse-room, relabel-refused, relabel-accepted}
+use Rattle.relabel.proofs.Relabelled.{inverse-look-up, relabel-refused, relabel-accepted}
 use Rattle.relabel.proofs.relabel.Statement.{statement}
 use Rattle.relabel.proofs.relabel.Tie as tie
 
@@ -23,7 +23,7 @@ look-up-requires c κs =
     let at-if1 = at-invert .before .before in
     let at-relabel-refusal = at-if1 .before in
     let a = relabel-known _ _ _ _ (at-relabel-refusal .relabel-refusal .ensures) (at-if1 .if1 .left) in
-    (a .same, inverse-room _ (at-invert .invert .ensures) (a .vertices))
+    inverse-look-up _ _ _ (at-invert .invert .ensures) (a .all) (a .faultless) (a .same)
 
 same-length : tie.Need-same-length
 same-length c = search needs

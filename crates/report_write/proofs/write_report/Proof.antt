@@ -1,6 +1,6 @@
 use native.Mathlib.Omega.{arith}
 use mathlib.Core.Path.{refl, _∙_}
-use Rattle.report_write.proofs.Written.{lower-countable, lower-counted, block-faultless, block-countable, summable, all-answered}
+use Rattle.report_write.proofs.Written.{lower-countable, lower-counted, block-proper, block-countable, summable, all-answered}
 use borrow.Author.Needs.{needs}
 use Rattle.report_write.proofs.write_report.Statement.{statement}
 use Rattle.report_write.proofs.write_report.Tie as tie
@@ -21,7 +21,7 @@ write-edge-blocks-requires c κs =
     let at-divide-and-reach = c .before .before .before .before .before .before .before .before .before .before .before .before .before .before .before .before in
     let at-count = at-divide-and-reach .before .before .before .before .before .before .before .before .before .before .before .before .before in
     let at-pre = at-count .before .before .before .before .before .before .before .before .before .before .before .before .before .before .before .before .before .before in
-    let q = at-pre .pre .0 in let d = at-divide-and-reach .divide-and-reach in (block-faultless q (d .ensures _ q (lower-counted q (at-count .count-lower .ensures))), d .kept .1 .1 .1 .1 .1 .1 .1 .1 .1 .1 .0 ∙ q .edge-blocks)
+    let q = at-pre .pre .0 in let d = at-divide-and-reach .divide-and-reach in (block-proper q (d .ensures _ q (lower-counted q (at-count .count-lower .ensures))), d .kept .1 .1 .1 .1 .1 .1 .1 .1 .1 .1 .0 ∙ q .edge-blocks)
 
 narrow-requires : tie.Need-narrow-requires
 narrow-requires c κs =

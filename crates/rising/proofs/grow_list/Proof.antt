@@ -3,7 +3,7 @@ use Prim.Native.Nat.{ℕ}
 use native.Mathlib.Omega.{arith}
 use lib.ListN.{replicate}
 use Rattle.game.specs.Game.{absent}
-use Rattle.refusal.proofs.Fault.{faultless-proper}
+use Rattle.refusal.proofs.Fault.{list-proper}
 use Rattle.growth.proofs.NewParents.{new-whole, links-blank}
 use Rattle.growth.proofs.Moves.{moves-differ}
 use Rattle.growth.proofs.Rooms.{same-room}
@@ -48,7 +48,7 @@ returns c =
     let (g, blank, long) = at-pre .pre in
     let l : tie.After-raise-list = at-clear .before .before .before .before .before .before .before .before .before .before in
     let (raised, weighed, untouched, moves) = l .raise-list .ensures in (
-      new-whole (omega (arith, g .few)) (faultless-proper _ _ (rises-faultless (g .rises))) refl (l .raise-list .kept .1 .1 .0) (links-blank _ blank) untouched raised,
+      new-whole (omega (arith, g .few)) (list-proper _ _ (rises-faultless (g .rises))) refl (l .raise-list .kept .1 .1 .0) (links-blank _ blank) untouched raised,
       weighed,
       at-clear .clear .ensures ∙ same-room _ _ _ _ _ _ refl (l .raise-list .kept .1 .1 .1 .0 ∙ at-fill .fill .kept .0) refl,
       moves-differ moves,

@@ -1,22 +1,22 @@
 use mathlib.Core.Path.{_≡_, refl, sym, ap, subst, subst₂, _∙_}
-use mathlib.Core.Bool.{false}
 use mathlib.Core.List.{List}
-use Prim.Native.Nat.{ℕ, _-_, _<_}
+use Prim.Native.Nat.{ℕ, _-_}
 use native.Mathlib.Omega.{arith}
 use lib.ListN.{length, drop, length-replicate}
-use Rattle.game.specs.Edge.{edges as edgesOf}
+use Rattle.game.specs.Edge.{edges as edgesOf, ties as tiesOf}
 use Rattle.game.specs.Game.{absent}
-use Rattle.edge.proofs.Reading.{AtEdge, edge-start, edge-next, edge-inside, edge-here, edge-end}
-use Rattle.refusal.proofs.Fault.{faultless-proper}
-use Rattle.sorting.proofs.Tallied.{Counting, counting-room, counting-turn, counting-end}
-use Rattle.bucket.specs.Ends.{endOf, tallied}
+use Rattle.edge.proofs.Reading.{AtEdge, edge-start, edge-next, edge-inside, tie-here, tie-end}
+use Rattle.refusal.proofs.Fault.{list-proper}
+use Rattle.bucket.specs.Ends.{weighed}
+use Rattle.bucket.proofs.Charging.{Charging, charging-room, charging-turn, charging-end}
+use Rattle.bucket.proofs.Sweeping.{owner-end, faultless-owner}
 use Rattle.growth.specs.Growth.{Upward, Untouched, newParents}
 use Rattle.growth.specs.Moves.{Moves}
 use Rattle.growth.proofs.Climbs.{upward-blank}
 use Rattle.growth.proofs.NewParents.{new-blank, untouched-none, untouched-on}
 use Rattle.growth.proofs.Moves.{moves-none, moves-on}
 use Rattle.rising.proofs.Rising.{rises-faultless}
-use Rattle.rising.proofs.Taking.{Taking, taking-start, taking-ends, taking-edge, taking-end}
+use Rattle.rising.proofs.Taking.{Taking, taking-start, taking-faultless, taking-upper, taking-edge, taking-end}
 use borrow.Author.Needs.{needs}
 use Rattle.rising.proofs.raise_list.Statement.{statement}
 use Rattle.rising.proofs.raise_list.Tie as tie
@@ -28,8 +28,8 @@ record Turn (xs weights₀ before jumps weights p jump : List ℕ) (m moved i : 
   upward : Upward (length before) jump
   untouched : Untouched before jumps p jump
   moves : Moves before jumps absent p jump moved
-  counting : Counting (endOf false) (length before) (drop i (edgesOf xs)) weights (tallied false (edgesOf xs) weights₀)
-  taking : Taking (length before) (edgesOf xs) (drop i (edgesOf xs)) (newParents p jump) jump
+  charging : Charging (length before) (drop i (tiesOf xs)) weights (weighed (tiesOf xs) weights₀)
+  taking : Taking (length before) (edgesOf xs) (drop i (tiesOf xs)) (newParents p jump) jump
 
 abbrev Inv-loop : tie.InvT-loop
 Inv-loop edges weights₀ parents₀ jump₀ m moved₀ i₀ weights parents jump moved i = Turn edges weights₀ parents₀ jump₀ weights parents jump m moved i
@@ -49,12 +49,15 @@ loop-holds c =
       upward = subst (Upward _) (sym (blank)) (upward-blank _);
       untouched = untouched-none _ _;
       moves = moves-none _ _ _;
-      counting = record { long = r .long; room = r .room; same = refl };
-      taking = subst₂ (Taking _ _ _) (sym (new-blank _ refl (blank))) (sym (blank)) (taking-start (omega (arith, r .few)) (r .rises));
+      charging = record { long = r .long; room = r .room; same = refl };
+      taking = subst₂ (Taking _ _ _) (sym (new-blank _ refl (blank))) (sym (blank)) (taking-start _ (omega (arith, r .few)) (r .rises));
     }
 
 at-requires : tie.Need-at-requires Inv-loop μ-loop
 at-requires c κs = edge-inside (c .before .loop .inv .place) (c .loop-test .taken)
+
+rows-requires : tie.Need-rows-requires Inv-loop μ-loop
+rows-requires c κs = edge-inside (c .before .before .loop .inv .place) (c .before .loop-test .taken)
 
 end-of-requires : tie.Need-end-of-requires Inv-loop μ-loop
 end-of-requires c κs = search needs
@@ -62,46 +65,29 @@ end-of-requires c κs = search needs
 end-of-requires-2 : tie.Need-end-of-requires-2 Inv-loop μ-loop
 end-of-requires-2 c κs = search needs
 
-wide-requires : tie.Need-wide-requires Inv-loop μ-loop
-wide-requires c κs = search needs
-
-mul-weights : tie.Need-mul-weights Inv-loop μ-loop
-mul-weights c = search needs
-
--- the lower end of the edge that the loop has come to has a weight
-weighed-here : (c : tie.After-wide Inv-loop μ-loop) → c .wide .result < length (c .before .before .before .before .before .loop .weights)
-weighed-here c =
+add-at-requires : tie.Need-add-at-requires Inv-loop μ-loop
+add-at-requires c κs =
     let at-end-of = c .before .before in
-    let at-at = at-end-of .before in
+    let at-rows = at-end-of .before in
+    let at-at = at-rows .before in
     let at-loop-test = at-at .before in
-    let at-loop = at-loop-test .before in
-    let t = at-loop .loop .inv in
-    let e = taking-ends (t .taking) (edge-here (at-loop-test .before .loop .inv .place) (at-loop-test .loop-test .taken) (at-at .at .ensures)) in
-    omega (arith, c .wide .ensures, at-end-of .end-of .ensures, e .0, e .1, t .counting .long)
-
-slice-read-weights : tie.Need-slice-read-weights Inv-loop μ-loop
-slice-read-weights c = weighed-here (c .before)
-
-add-weights : tie.Need-add-weights Inv-loop μ-loop
-add-weights c =
-    let at-at = c .before .before .before .before in
-    let at-loop-test = at-at .before in
-    let at-loop = at-loop-test .before in
-    record { fits = counting-room (endOf false) (at-loop .loop .inv .counting) _ (edge-here (at-loop-test .before .loop .inv .place) (at-loop-test .loop-test .taken) (at-at .at .ensures)) }
-
-slice-write-weights : tie.Need-slice-write-weights Inv-loop μ-loop
-slice-write-weights c = weighed-here (c .before)
+    let t = at-loop-test .before .loop .inv in
+    let head = tie-here _ (t .place) (at-loop-test .loop-test .taken) (at-at .at .ensures) (at-rows .rows .ensures) in
+    let low = faultless-owner _ _ _ _ (at-end-of .end-of .ensures) (taking-faultless (t .taking) head) in
+    (omega (arith, low .0, t .charging .long), charging-room (t .charging) head (low .1) (owner-end _ _ (at-end-of .end-of .ensures)) (low .0))
 
 climb-requires : tie.Need-climb-requires Inv-loop μ-loop
 climb-requires c κs =
-    let at-end-of2 = c .before .before .before .before in
-    let at-at = at-end-of2 .before .before in
+    let at-end-of2 = c .before .before .before .before .before .before in
+    let at-rows = at-end-of2 .before .before in
+    let at-at = at-rows .before in
     let at-loop-test = at-at .before in
     let at-loop = at-loop-test .before in
     let at-pre = at-loop .before .before .before .before .before .before in
     let t = at-loop .loop .inv in
-    let e = taking-ends (t .taking) (edge-here (at-loop-test .before .loop .inv .place) (at-loop-test .loop-test .taken) (at-at .at .ensures)) in
-    (omega (arith, at-end-of2 .end-of2 .ensures, e .1, t .same), omega (arith, t .same, at-pre .pre .0 .few), subst (λ (m : ℕ). Upward m (at-loop .loop .jump)) (sym (t .same)) (t .upward))
+    let head = tie-here _ (t .place) (at-loop-test .loop-test .taken) (at-at .at .ensures) (at-rows .rows .ensures) in
+    let top = taking-upper _ _ _ _ (taking-faultless (t .taking) head) in
+    (omega (arith, at-end-of2 .end-of2 .ensures, top, t .same), omega (arith, t .same, at-pre .pre .0 .few), subst (λ (m : ℕ). Upward m (at-loop .loop .jump)) (sym (t .same)) (t .upward))
 
 add-i : tie.Need-add-i Inv-loop μ-loop
 add-i c = search needs
@@ -112,28 +98,30 @@ loop-less c = search needs
 loop-again : tie.Need-loop-again Inv-loop μ-loop
 loop-again c =
     let at-climb = c .before .before .before .before in
-    let at-wide = at-climb .before .before .before .before in
-    let at-end-of2 = at-wide .before in
+    let at-add-at = at-climb .before .before .before .before .before in
+    let at-end-of2 = at-add-at .before .before in
     let at-end-of = at-end-of2 .before in
-    let at-at = at-end-of .before in
+    let at-rows = at-end-of .before in
+    let at-at = at-rows .before in
     let at-loop-test = at-at .before in
     let at-loop = at-loop-test .before in
     let t = at-loop .loop .inv in
     let h = at-loop-test .loop-test .taken in
     let (k, m) = at-climb .climb .ensures in
-    let head = edge-here (t .place) h (at-at .at .ensures) in
+    let head = tie-here _ (t .place) h (at-at .at .ensures) (at-rows .rows .ensures) in
+    let low = faultless-owner _ _ _ _ (at-end-of .end-of .ensures) (taking-faultless (t .taking) head) in
     record {
       place = edge-next (t .place) h;
       same = at-climb .climb .kept .1 .1 .0 ∙ t .same;
       upward = subst (λ (n : ℕ). Upward n (at-climb .climb .last .1 .1 .1 .0)) (t .same) (k .upward);
       untouched = untouched-on (t .untouched) (k .untouched);
       moves = moves-on (t .moves) m;
-      counting = counting-turn (endOf false) (t .counting) _ head (at-wide .wide .ensures ∙ at-end-of .end-of .ensures) (weighed-here (at-wide));
+      charging = rw (at-add-at .add-at .ensures) (charging-turn (t .charging) head (low .1) (owner-end _ _ (at-end-of .end-of .ensures)) (low .0));
       taking = taking-edge (t .taking) head (at-end-of .end-of .ensures) (at-end-of2 .end-of2 .ensures) (t .same) k;
     }
 
 same-length : tie.Need-same-length Inv-loop μ-loop
-same-length c = c .before .loop .inv .counting .long ∙ sym (c .before .before .before .before .before .before .before .pre .0 .long)
+same-length c = c .before .loop .inv .charging .long ∙ sym (c .before .before .before .before .before .before .before .pre .0 .long)
 
 same-length-2 : tie.Need-same-length-2 Inv-loop μ-loop
 same-length-2 c = search needs
@@ -144,9 +132,9 @@ same-length-3 c = c .before .loop .inv .upward .long ∙ sym (ap length (c .befo
 returns : tie.Need-returns Inv-loop μ-loop
 returns c =
     let t = c .before .loop .inv in
-    let none = edge-end (t .place) (c .loop-test .left) in (
-      taking-end (t .taking) none (faultless-proper _ _ (rises-faultless (c .before .before .before .before .before .before .before .pre .0 .rises))),
-      counting-end (endOf false) (t .counting) none,
+    let none = tie-end _ (t .place) (c .loop-test .left) in (
+      taking-end (t .taking) none (list-proper _ _ (rises-faultless (c .before .before .before .before .before .before .before .pre .0 .rises))),
+      charging-end (t .charging) none,
       t .untouched,
       t .moves,
     )
@@ -160,13 +148,10 @@ raise-list-spec =
     count-requires
     loop-holds
     at-requires
+    rows-requires
     end-of-requires
     end-of-requires-2
-    wide-requires
-    mul-weights
-    slice-read-weights
-    add-weights
-    slice-write-weights
+    add-at-requires
     climb-requires
     add-i
     loop-less

@@ -1,16 +1,16 @@
 use borrow.Author.Needs.{needs}
 use Rattle.files.specs.Files.{vertexCapacity}
-use Rattle.files.specs.Steps.{endCapacity}
+use Rattle.files.specs.Steps.{numberCapacity}
 use Rattle.run_report.proofs.divide.Statement.{statement}
 use Rattle.run_report.proofs.divide.Tie as tie
-use Rattle.run_report.proofs.Zeroed.{part-counted, front-fits, front-is, front-counted, ends-fit, grow-room}
+use Rattle.run_report.proofs.Zeroed.{part-counted, front-fits, front-is, front-counted, numbers-fit, grow-room}
 use Rattle.run_report.proofs.Dividing.{grown-again, to-report, put-ranked}
 
 array-borrow-prefix-ranked : tie.Need-array-borrow-prefix-ranked
-array-borrow-prefix-ranked c = ends-fit (c .before .before .before .pre .0 .0)
+array-borrow-prefix-ranked c = numbers-fit (c .before .before .before .pre .0 .0)
 
 slice-aggregate-grow-ranked : tie.Need-slice-aggregate-grow-ranked
-slice-aggregate-grow-ranked c = part-counted endCapacity _ (ends-fit (c .before .before .before .before .pre .0 .0))
+slice-aggregate-grow-ranked c = part-counted numberCapacity _ (numbers-fit (c .before .before .before .before .pre .0 .0))
 
 array-borrow-prefix-parents : tie.Need-array-borrow-prefix-parents
 array-borrow-prefix-parents c = search needs
@@ -33,13 +33,13 @@ array-share-prefix-ranked : tie.Need-array-share-prefix-ranked
 array-share-prefix-ranked c =
     let at-grow-ranked = c .before .before .before in
     let at-pre = at-grow-ranked .before .before .before .before .before .before .before in
-    front-fits endCapacity _ (ends-fit (at-pre .pre .0 .0)) (at-grow-ranked .grow-ranked .last .1 .1 .0) (at-grow-ranked .grow-ranked .kept .1 .1 .0)
+    front-fits numberCapacity _ (numbers-fit (at-pre .pre .0 .0)) (at-grow-ranked .grow-ranked .last .1 .1 .0) (at-grow-ranked .grow-ranked .kept .1 .1 .0)
 
 slice-aggregate-report-on : tie.Need-slice-aggregate-report-on
 slice-aggregate-report-on c =
     let at-grow-ranked = c .before .before .before .before in
     let at-pre = at-grow-ranked .before .before .before .before .before .before .before in
-    front-counted endCapacity _ (ends-fit (at-pre .pre .0 .0)) (at-grow-ranked .grow-ranked .last .1 .1 .0) (at-grow-ranked .grow-ranked .kept .1 .1 .0)
+    front-counted numberCapacity _ (numbers-fit (at-pre .pre .0 .0)) (at-grow-ranked .grow-ranked .last .1 .1 .0) (at-grow-ranked .grow-ranked .kept .1 .1 .0)
 
 array-share-prefix-parents : tie.Need-array-share-prefix-parents
 array-share-prefix-parents c =
@@ -70,7 +70,7 @@ report-on-requires c κs =
     let at-grow-ranked = c .before .before .before .before .before .before .before in
     let at-pre = at-grow-ranked .before .before .before .before .before .before .before in (
       to-report (at-pre .pre .0 .0) (grown-again (at-grow-ranked .grow-ranked .ensures)
-          (front-is endCapacity _ (ends-fit (at-pre .pre .0 .0)) (at-grow-ranked .grow-ranked .last .1 .1 .0) (at-grow-ranked .grow-ranked .kept .1 .1 .0))
+          (front-is numberCapacity _ (numbers-fit (at-pre .pre .0 .0)) (at-grow-ranked .grow-ranked .last .1 .1 .0) (at-grow-ranked .grow-ranked .kept .1 .1 .0))
           (front-is vertexCapacity _ (at-pre .pre .0 .0 .vertices) (at-grow-ranked .grow-ranked .last .1 .1 .1 .0) (at-grow-ranked .grow-ranked .kept .1 .1 .1 .0))
           (front-is vertexCapacity _ (at-pre .pre .0 .0 .vertices) (at-grow-ranked .grow-ranked .last .1 .1 .1 .1 .0) (at-grow-ranked .grow-ranked .kept .1 .1 .1 .1 .0))) (at-pre .pre .0 .1),
       at-pre .pre .1,
@@ -85,7 +85,7 @@ returns c =
     let at-grow-ranked = at-report-on .before .before .before .before .before .before .before .before in
     let at-pre = at-grow-ranked .before .before .before .before .before .before .before in
     put-ranked (at-pre .pre .0 .0) (grown-again (at-grow-ranked .grow-ranked .ensures)
-    (front-is endCapacity _ (ends-fit (at-pre .pre .0 .0)) (at-grow-ranked .grow-ranked .last .1 .1 .0) (at-grow-ranked .grow-ranked .kept .1 .1 .0))
+    (front-is numberCapacity _ (numbers-fit (at-pre .pre .0 .0)) (at-grow-ranked .grow-ranked .last .1 .1 .0) (at-grow-ranked .grow-ranked .kept .1 .1 .0))
     (front-is vertexCapacity _ (at-pre .pre .0 .0 .vertices) (at-grow-ranked .grow-ranked .last .1 .1 .1 .0) (at-grow-ranked .grow-ranked .kept .1 .1 .1 .0))
     (front-is vertexCapacity _ (at-pre .pre .0 .0 .vertices) (at-grow-ranked .grow-ranked .last .1 .1 .1 .1 .0) (at-grow-ranked .grow-ranked .kept .1 .1 .1 .1 .0))) _ _
     (at-report-on .report-on .ensures)

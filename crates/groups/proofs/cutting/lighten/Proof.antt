@@ -40,7 +40,7 @@ slice-aggregate-lighten-by-class-2 c = search needs
 lighten-by-class-requires-2 : tie.Need-lighten-by-class-requires-2
 lighten-by-class-requires-2 c κs =
     let at-pre = c .before .before .before .before .before .before .before .before .before .before in
-    (at-pre .pre .0, (at-pre .pre .1, unfiled 640 (omega arith) (omega arith)))
+    (at-pre .pre .0, (at-pre .pre .1, unfiled 736 (omega arith) (omega arith)))
 
 same-length-3 : tie.Need-same-length-3
 same-length-3 c = search needs

@@ -8,7 +8,7 @@ use Rattle.growth.specs.Moves.{Moves}
 use Rattle.growth.proofs.NewParents.{untouched-none, untouched-on}
 use Rattle.growth.proofs.Moves.{moves-none, moves-on}
 use Rattle.growth.proofs.Gather.{climbs-start, climbs-next, climbs-end}
-use Rattle.growth.proofs.Weigh.{read-start, read-ahead, read-turn, read-end}
+use Rattle.growth.proofs.ReadUpTo.{read-start, read-ahead, read-turn, read-end}
 use native.Mathlib.Omega.{arith}
 use Prim.Native.Nat.{ℕ, _-_, _<_}
 use borrow.Author.Needs.{needs}

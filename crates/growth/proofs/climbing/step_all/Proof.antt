@@ -1,14 +1,13 @@
-use lib.ListN.{length-take, take, length, getD, length-set}
-use lib.Seq.{take-length, getD-set-other}
+use lib.ListN.{length, getD, length-set}
+use lib.Seq.{getD-set-other}
 use mathlib.Core.Path.{refl, sym, subst, _∙_, _≡_}
 use mathlib.Core.List.{List, []}
 use Rattle.game.specs.Edge.{Edge}
-use Rattle.growth.specs.Growth.{Upward, Standing, Offers, Begun, Weighs, newParents, Untouched}
+use Rattle.growth.specs.Growth.{Upward, Standing, Offers, Begun, newParents, Untouched}
 use Rattle.growth.specs.Moves.{Moves}
 use Rattle.growth.proofs.NewParents.{untouched-none, untouched-on}
 use Rattle.growth.proofs.Moves.{moves-none, moves-on}
 use Rattle.growth.proofs.Gather.{begin-start, begin-next}
-use Rattle.growth.proofs.Weigh.{weighs-none, weighs-room, weighs-next}
 use native.Mathlib.Omega.{arith}
 use native.Mathlib.Nat.{le-refl}
 use Prim.Native.Nat.{ℕ, _-_, _<_, _≤_}
@@ -17,31 +16,29 @@ use Rattle.growth.proofs.climbing.step_all.Statement.{statement}
 use Rattle.growth.proofs.climbing.step_all.Tie as tie
 
 -- a climb is begun from each of the first i vertices of the bucket, for whatever graph the tables stand for; behind them it is as it was
-record Turn (y : ℕ) (was weights₀ before jumps : List ℕ) (moved : ℕ) (bucket weights p jump : List ℕ) (lowest i : ℕ) : Type 0 where
+record Turn (y : ℕ) (was before jumps : List ℕ) (moved : ℕ) (bucket p jump : List ℕ) (lowest i : ℕ) : Type 0 where
   same : length p ≡ length before
   upward : Upward (length before) jump
   long : length bucket ≡ length was
   inside : i ≤ length was
   ahead : (j : ℕ) → i ≤ j → getD bucket j 0 ≡ getD was j 0
-  weighed : Weighs (take i was) weights₀ weights
   untouched : Untouched before jumps p jump
   moves : Moves before jumps moved p jump lowest
   begun : (E : List Edge) → Standing (length before) E y [] (newParents before jumps) jumps → Offers E y was → Begun (length before) E y i was bucket (newParents before jumps) (newParents p jump) jump
 
 abbrev Inv-loop : tie.InvT-loop
-Inv-loop y bucket₀ weights₀ parents₀ jump₀ moved lowest₀ i₀ bucket weights parents jump lowest i = Turn y bucket₀ weights₀ parents₀ jump₀ moved bucket weights parents jump lowest i
+Inv-loop y bucket₀ parents₀ jump₀ moved lowest₀ i₀ bucket parents jump lowest i = Turn y bucket₀ parents₀ jump₀ moved bucket parents jump lowest i
 
 abbrev μ-loop : tie.MeasureT-loop
-μ-loop y bucket₀ weights₀ parents₀ jump₀ moved lowest₀ i₀ bucket weights parents jump lowest i = length bucket₀ - i
+μ-loop y bucket₀ parents₀ jump₀ moved lowest₀ i₀ bucket parents jump lowest i = length bucket₀ - i
 
 loop-holds : tie.Need-loop-holds Inv-loop μ-loop
 loop-holds c = record {
   same = refl;
-  upward = c .before .before .before .before .pre .2;
+  upward = c .before .before .before .pre .2;
   long = refl;
   inside = omega arith;
   ahead = λ j h. refl;
-  weighed = weighs-none _;
   untouched = untouched-none _ _;
   moves = moves-none _ _ _;
   begun = λ E s o. begin-start s;
@@ -53,17 +50,9 @@ mul-u c = search needs
 slice-read-u : tie.Need-slice-read-u Inv-loop μ-loop
 slice-read-u c = search needs
 
-weigh-requires : tie.Need-weigh-requires Inv-loop μ-loop
-weigh-requires c κs =
-    let at-loop-test = c .before .before in
-    let at-loop = at-loop-test .before in
-    let at-pre = at-loop .before .before .before .before .before in
-    let t = at-loop .loop .inv in
-    λ v h. omega (arith, weighs-room (t .weighed) v (omega (arith, t .weighed .long)), at-pre .pre .3 .light v (omega (arith, t .weighed .long)), at-loop-test .loop-test .taken, t .long, length-take (at-loop .loop .i) (at-pre .args .bucket .now))
-
 step-requires : tie.Need-step-requires Inv-loop μ-loop
 step-requires c κs =
-    let at-loop = c .before .before .before .before .before .before .before .before in
+    let at-loop = c .before .before .before .before in
     let t = at-loop .loop .inv in
     (omega (arith, t .same), omega (arith, t .same), subst (λ (m : ℕ). Upward m (at-loop .loop .jump)) (sym (t .same)) (t .upward))
 
@@ -82,10 +71,9 @@ loop-less c = search needs
 loop-again : tie.Need-loop-again Inv-loop μ-loop
 loop-again c =
     let at-step = c .before .before .before .before in
-    let at-weigh = at-step .before .before .before .before .before in
-    let at-loop-test = at-weigh .before .before .before in
+    let at-loop-test = at-step .before .before .before .before in
     let at-loop = at-loop-test .before in
-    let at-args = at-loop .before .before .before .before .before in
+    let at-args = at-loop .before .before .before .before in
     let t = at-loop .loop .inv in
     let k = at-step .step .ensures .0 in
     let here : at-loop .loop .i < length (at-loop .loop .bucket) = at-loop-test .loop-test .taken in
@@ -97,7 +85,6 @@ loop-again c =
       long = length-set (at-loop .loop .bucket) _ _ ∙ t .long;
       inside = omega (arith, inside);
       ahead = λ j h. getD-set-other (at-loop .loop .bucket) _ j _ 0 (omega arith) ∙ t .ahead j (omega arith);
-      weighed = weighs-next _ _ (t .weighed) inside u (at-weigh .weigh .ensures);
       untouched = untouched-on (t .untouched) (k .untouched);
       moves = moves-on (t .moves) (at-step .step .ensures .1);
       begun = λ E s o. begin-next (t .same) here u k (o .offer _ inside) (t .begun E s o);
@@ -112,17 +99,13 @@ same-length-2 c = search needs
 same-length-3 : tie.Need-same-length-3 Inv-loop μ-loop
 same-length-3 c = search needs
 
-same-length-4 : tie.Need-same-length-4 Inv-loop μ-loop
-same-length-4 c = search needs
-
 returns : tie.Need-returns Inv-loop μ-loop
 returns c =
     let t = c .before .loop .inv in
-    let done : c .before .loop .i ≡ length (c .before .before .before .before .before .before .args .bucket .now) = omega (arith, c .loop-test .left, t .long, t .inside) in (
+    let done : c .before .loop .i ≡ length (c .before .before .before .before .before .args .bucket .now) = omega (arith, c .loop-test .left, t .long, t .inside) in (
       record {
         upward = t .upward;
         long = t .long;
-        weighed = rw (done, take-length) at (t .weighed);
         untouched = t .untouched;
         begun = λ E s o. rw done at (t .begun E s o);
       },
@@ -138,7 +121,6 @@ step-all-spec =
     loop-holds
     mul-u
     slice-read-u
-    weigh-requires
     step-requires
     mul-bucket
     slice-write-bucket
@@ -148,5 +130,4 @@ step-all-spec =
     same-length
     same-length-2
     same-length-3
-    same-length-4
     returns)

@@ -1,4 +1,4 @@
-use Rattle.growth.proofs.Weigh.{cleared-out}
+use Rattle.growth.proofs.ReadUpTo.{cleared-out}
 use Rattle.growth.proofs.Rooms.{work-cleared}
 use borrow.Author.Needs.{needs}
 use Rattle.growth.proofs.raising.clear.Statement.{statement}

@@ -1,6 +1,6 @@
 use mathlib.Core.Path.{refl, sym, ap, subst, subst₂, _∙_, _≡_}
 use mathlib.Core.List.{List}
-use lib.ListN.{take, length-replicate, length-take, length}
+use lib.ListN.{length-replicate, length}
 use Rattle.game.specs.Edge.{Edge}
 use Rattle.game.specs.Game.{absent}
 use Rattle.game.specs.Graph.{Proper}
@@ -8,13 +8,13 @@ use mathlib.Core.Bool.{Bool}
 use Rattle.sorting.specs.Sorted.{begin}
 use Rattle.bucket.specs.Filed.{Filed}
 use Rattle.bucket.proofs.Reading.{begin-next, filed-part}
-use Rattle.growth.specs.Growth.{Upward, Weighs, Raised, ReadUpTo, newParents, Untouched}
+use Rattle.growth.specs.Growth.{Upward, Raised, ReadUpTo, newParents, Untouched}
 use Rattle.growth.specs.Moves.{Moves}
 use Rattle.growth.proofs.NewParents.{new-blank, untouched-none, untouched-on}
 use Rattle.growth.proofs.Moves.{moves-none, moves-on}
 use Rattle.growth.proofs.Climbs.{upward-blank}
 use Rattle.growth.proofs.Raise.{raise-start, raise-gather, raise-end}
-use Rattle.growth.proofs.Weigh.{weighs-none, weighs-room, weighs-stretch, part-length, read-start, read-part, read-on}
+use Rattle.growth.proofs.ReadUpTo.{read-start, read-part, read-on}
 use native.Mathlib.Omega.{arith}
 use Prim.Native.Nat.{ℕ, _-_, _<_, _≤_}
 use borrow.Author.Needs.{needs}
@@ -22,27 +22,26 @@ use Rattle.growth.proofs.raising.raise.Statement.{statement}
 use Rattle.growth.proofs.raising.raise.Tie as tie
 
 -- the vertices below y are raised, for whatever graph is filed
-record Turn (keep : Bool) (ends was weights₀ before jumps lower weights p jump : List ℕ) (moved at y : ℕ) : Type 0 where
+record Turn (keep : Bool) (ends was before jumps lower p jump : List ℕ) (moved at y : ℕ) : Type 0 where
   same : length p ≡ length ends
   upward : Upward (length ends) jump
   within : y ≤ length ends
   start : at ≡ begin ends y
   reading : ReadUpTo keep was at lower
-  weighed : Weighs (take at was) weights₀ weights
   untouched : Untouched before jumps p jump
   moves : Moves before jumps absent p jump moved
   raised : (E : List Edge) → Proper (length ends) E → Filed (length ends) E ends was → Raised (length ends) E y (newParents p jump) jump
 
 abbrev Inv-loop : tie.InvT-loop
-Inv-loop parents₀ weights₀ keep ends jump₀ lower₀ moved₀ at₀ y₀ parents weights jump lower moved at y = Turn keep ends lower₀ weights₀ parents₀ jump₀ lower weights parents jump moved at y
+Inv-loop parents₀ keep whole ends jump₀ lower₀ moved₀ at₀ y₀ parents jump lower moved at y = Turn keep ends lower₀ parents₀ jump₀ lower parents jump moved at y
 
 abbrev μ-loop : tie.MeasureT-loop
-μ-loop parents₀ weights₀ keep ends jump₀ lower₀ moved₀ at₀ y₀ parents weights jump lower moved at y = length ends - y
+μ-loop parents₀ keep whole ends jump₀ lower₀ moved₀ at₀ y₀ parents jump lower moved at y = length ends - y
 
 loop-holds : tie.Need-loop-holds Inv-loop μ-loop
 unfolding begin
 loop-holds c =
-    let b = c .before .before .before .before .before .pre in
+    let b = c .before .before .before .before .pre in
     record {
       same = b .long;
       untouched = untouched-none _ _;
@@ -51,7 +50,6 @@ loop-holds c =
       within = omega arith;
       start = refl;
       reading = read-start _ _;
-      weighed = weighs-none _;
       raised = λ E k f. subst₂ (Raised _ E 0) (sym (new-blank _ (b .long) (b .blank-jump))) (sym (b .blank-jump)) (raise-start _ E (omega (arith, b .buckets .few)));
     }
 
@@ -74,7 +72,7 @@ sub-gather : tie.Need-sub-gather Inv-loop μ-loop
 sub-gather c =
     let at-loop-test = c .before .before in
     let at-loop = at-loop-test .before in
-    let at-args = at-loop .before .before .before .before .before .before in
+    let at-args = at-loop .before .before .before .before .before in
     let t = at-loop .loop .inv in
     let here : at-loop .loop .y < length (at-args .args .ends .now) = at-loop-test .loop-test .taken in
     let b = at-args .pre .buckets in
@@ -86,7 +84,7 @@ part-gather-start : tie.Need-part-gather-start Inv-loop μ-loop
 part-gather-start c =
     let at-loop-test = c .before .before in
     let at-loop = at-loop-test .before in
-    let at-args = at-loop .before .before .before .before .before .before in
+    let at-args = at-loop .before .before .before .before .before in
     let t = at-loop .loop .inv in
     let here : at-loop .loop .y < length (at-args .args .ends .now) = at-loop-test .loop-test .taken in
     let b = at-args .pre .buckets in
@@ -98,7 +96,7 @@ part-gather-end : tie.Need-part-gather-end Inv-loop μ-loop
 part-gather-end c =
     let at-loop-test = c .before .before in
     let at-loop = at-loop-test .before in
-    let at-args = at-loop .before .before .before .before .before .before in
+    let at-args = at-loop .before .before .before .before .before in
     let t = at-loop .loop .inv in
     let here : at-loop .loop .y < length (at-args .args .ends .now) = at-loop-test .loop-test .taken in
     let b = at-args .pre .buckets in
@@ -108,10 +106,10 @@ part-gather-end c =
 
 gather-requires : tie.Need-gather-requires Inv-loop μ-loop
 gather-requires c κs =
-    let at-wide = c .before .before .before .before in
+    let at-wide = c .before .before .before in
     let at-loop-test = at-wide .before .before in
     let at-loop = at-loop-test .before in
-    let at-args = at-loop .before .before .before .before .before .before in
+    let at-args = at-loop .before .before .before .before .before in
     let t = at-loop .loop .inv in
     let here : at-loop .loop .y < length (at-args .args .ends .now) = at-loop-test .loop-test .taken in
     let b = at-args .pre .buckets in
@@ -120,18 +118,6 @@ gather-requires c κs =
       omega (arith, t .same, here),
       omega (arith, t .same, b .few),
       subst (λ (m : ℕ). Upward m (at-loop .loop .jump)) (sym (t .same)) (t .upward),
-      record {
-        light = λ v h.
-            omega (
-              arith,
-              weighs-room (t .weighed) v (omega (arith, t .weighed .long)),
-              length-take (at-loop .loop .at) (at-args .args .lower .now),
-              part-length (at-loop .loop .at)
-                  (at-wide .wide .result) (at-loop .loop .lower) room,
-              at-args .pre .light .light v (omega (arith, t .weighed .long)),
-              t .reading .long,
-            );
-      },
     )
 
 add-y : tie.Need-add-y Inv-loop μ-loop
@@ -142,11 +128,11 @@ loop-less c = search needs
 
 loop-again : tie.Need-loop-again Inv-loop μ-loop
 loop-again c =
-    let at-gather = c .before .before .before .before .before .before .before .before in
-    let at-wide = at-gather .before .before .before .before .before in
+    let at-gather = c .before .before .before .before .before .before in
+    let at-wide = at-gather .before .before .before .before in
     let at-loop-test = at-wide .before .before in
     let at-loop = at-loop-test .before in
-    let at-args = at-loop .before .before .before .before .before .before in
+    let at-args = at-loop .before .before .before .before .before in
     let t = at-loop .loop .inv in
     let here : at-loop .loop .y < length (at-args .args .ends .now) = at-loop-test .loop-test .taken in
     let b = at-args .pre .buckets in
@@ -159,33 +145,28 @@ loop-again c =
       within = omega arith;
       start = at-wide .wide .ensures ∙ sym (begin-next _ _);
       reading = read-on (t .reading) _ order room (g .leaves);
-      weighed = weighs-stretch _ _ _ order (t .weighed) (rw (read-part (t .reading) (at-wide .wide .result - at-loop .loop .at)) at (g .weighed));
       untouched = untouched-on (t .untouched) (g .untouched);
       moves = moves-on (t .moves) (at-gather .gather .ensures .1);
       raised = λ E k f. raise-gather (t .same) (read-part (t .reading) (at-wide .wide .result - at-loop .loop .at) ∙ filed-part f _ here (t .start) (at-wide .wide .ensures)) g k (t .raised E k f);
     }
 
 same-length : tie.Need-same-length Inv-loop μ-loop
-same-length c = c .before .loop .inv .same ∙ sym (c .before .before .before .before .before .before .before .pre .long)
+same-length c = c .before .loop .inv .same ∙ sym (c .before .before .before .before .before .before .pre .long)
 
 same-length-2 : tie.Need-same-length-2 Inv-loop μ-loop
-same-length-2 c = search needs
+same-length-2 c = c .before .loop .inv .upward .long ∙ sym (ap length (c .before .before .before .before .before .before .pre .blank-jump) ∙ length-replicate _ absent)
 
 same-length-3 : tie.Need-same-length-3 Inv-loop μ-loop
-same-length-3 c = c .before .loop .inv .upward .long ∙ sym (ap length (c .before .before .before .before .before .before .before .pre .blank-jump) ∙ length-replicate _ absent)
-
-same-length-4 : tie.Need-same-length-4 Inv-loop μ-loop
-same-length-4 c = search needs
+same-length-3 c = search needs
 
 returns : tie.Need-returns Inv-loop μ-loop
 returns c =
     let t = c .before .loop .inv in
-    let done : c .before .loop .y ≡ length (c .before .before .before .before .before .before .before .args .ends .now) = omega (arith, c .loop-test .left, t .within) in (
+    let done : c .before .loop .y ≡ length (c .before .before .before .before .before .before .args .ends .now) = omega (arith, c .loop-test .left, t .within) in (
       record {
         untouched = t .untouched;
         raised = λ E k f. raise-end k (c .loop-test .left) (t .raised E k f);
         last = t .start ∙ ap (begin _) done;
-        weighed = t .weighed;
         leaves = t .reading;
       },
       t .moves,
@@ -213,5 +194,4 @@ raise-spec =
     same-length
     same-length-2
     same-length-3
-    same-length-4
     returns)

@@ -27,8 +27,8 @@ same-length-5 c = search needs
 returns : tie.Need-returns
 returns c = search needs
 
-tally-requires : tie.Need-tally-requires
-tally-requires c κs =
+charge-requires : tie.Need-charge-requires
+charge-requires c κs =
     let s : tie.Start = c .before .before .before .before .before .before .before .before in
     list-weighs (s .pre .0) (s .pre .1)
 
@@ -64,7 +64,7 @@ extend-spec =
     same-length-4
     same-length-5
     returns
-    tally-requires
+    charge-requires
     insert-requires
     same-length-6
     same-length-7

@@ -57,10 +57,10 @@ file-edges-requires c κs =
     let s : tie.Start = at-put-some .before .before .before .before .before .before .before .before in
     let u = at-put-some .put-some .ensures .0 in
     let y = at-from .from .ensures in
-    (omega (arith, u .same, s .pre .long), (omega (arith, u .same, s .pre .table .few), (u .sound, (rest-faultless (s .pre) u y, (rest-room (s .pre) u y, omega (arith, s .pre .small))))))
+    (omega (arith, u .same, s .pre .long), (omega (arith, u .same, s .pre .table .few), (u .sound, (rest-faultless _ (s .pre) u y, (rest-room _ (s .pre) u y, omega (arith, s .pre .small))))))
 
-regrow-requires : tie.Need-regrow-requires
-regrow-requires c κs =
+grow-requires : tie.Need-grow-requires
+grow-requires c κs =
     let at-file-edges = c .before .before .before .before .before .before .before .before in
     let at-put-some = at-file-edges .before .before .before .before .before .before .before .before .before in
     let s : tie.Start = at-put-some .before .before .before .before .before .before .before .before in
@@ -84,20 +84,20 @@ same-length-8 c = search needs
 
 returns-2 : tie.Need-returns-2
 returns-2 c =
-    let at-regrow = c .before .before .before .before .before .before .before .before .before in
-    let at-file-edges = at-regrow .before .before .before .before .before .before .before .before .before in
+    let at-grow = c .before .before .before .before .before .before .before .before .before in
+    let at-file-edges = at-grow .before .before .before .before .before .before .before .before .before in
     let at-from = at-file-edges .before .before .before in
     let at-put-some = at-from .before .before .before .before .before .before in
     let s : tie.Start = at-put-some .before .before .before .before .before .before .before .before in
     let u = at-put-some .put-some .ensures .0 in
     let y = at-from .from .ensures in
     let f = at-file-edges .file-edges in
-    let g = at-regrow .regrow .ensures in (
+    let g = at-grow .grow .ensures in (
       record {
-        grown = rest-grown (s .pre) u y (f .ensures) (g .0);
+        grown = rest-grown _ (s .pre) u y (f .ensures) (g .0);
         clear = g .0 .clear ∙ same-room _ _ _ _ _ _ (f .kept .1 .1 .0) refl (f .kept .1 .1 .1 .0);
       },
-      rest-moved (s .pre) u y (f .ensures) (g .0) (at-put-some .put-some .ensures .1) (g .1) (c .smaller .ensures),
+      rest-moved _ (s .pre) u y (f .ensures) (g .0) (at-put-some .put-some .ensures .1) (g .1) (c .smaller .ensures),
     )
 
 pub insert-spec : {M : Type 1} → statement M
@@ -115,7 +115,7 @@ insert-spec =
     returns
     from-requires
     file-edges-requires
-    regrow-requires
+    grow-requires
     smaller-requires
     same-length-5
     same-length-6
