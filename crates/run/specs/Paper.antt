@@ -35,6 +35,10 @@ marks = bytesOf (3 ∷ 0 ∷ 1 ∷ 2 ∷ 4 ∷ 5 ∷ [])
 ties : List ℕ
 ties = bytesOf (3 ∷ 1 ∷ 1 ∷ 3 ∷ 4 ∷ 1 ∷ 0 ∷ 2 ∷ 1 ∷ 0 ∷ 4 ∷ 1 ∷ 1 ∷ 5 ∷ 1 ∷ 1 ∷ 3 ∷ 1 ∷ [])
 
+-- the same ties of 6, 1, 3, 1, 2 and 1 rows
+rowed : List ℕ
+rowed = bytesOf (3 ∷ 1 ∷ 6 ∷ 3 ∷ 4 ∷ 1 ∷ 0 ∷ 2 ∷ 3 ∷ 0 ∷ 4 ∷ 1 ∷ 1 ∷ 5 ∷ 2 ∷ 1 ∷ 3 ∷ 1 ∷ [])
+
 want : (B k : ℕ) → List ℕ
 want B k = bytesOf (B ∷ k ∷ [])
 
@@ -51,7 +55,7 @@ costly = bytesOf (1 ∷ 2 ∷ 7 ∷ 1 ∷ 1 ∷ 0 ∷ [])
 zeros : ℕ → List ℕ
 zeros n = replicate n 0
 
--- B = 4 and k = 2; B = 3; k = 1; B = 2; one vertex and no tie
+-- B = 4 and k = 2; B = 3; k = 1; B = 2; one vertex and no tie; other rows, with B = 8 and B = 7
 pub computed : List (List ℕ)
 computed =
     runText (files marks ties (want 4 2))
@@ -59,6 +63,8 @@ computed =
     ∷ runText (files marks ties (want 4 1))
     ∷ runText (files marks ties (want 2 2))
     ∷ runText (files (zeros 4) [] (want 1 1))
+    ∷ runText (files marks rowed (want 8 2))
+    ∷ runText (files marks rowed (want 7 2))
     ∷ []
 
 pub printed : List (List ℕ)
@@ -86,6 +92,14 @@ printed =
     ++ ascii "bound 2 volume 0 share 6 0\n")
     ∷ ascii "refused 22\n"
     ∷ (ascii "0 0 - 0 0 0 0 0\n" ++ ascii "bound 0 volume 0 share 0 0\n")
+    ∷ (ascii "0 3 2 8 2 0 0 1\n"
+    ++ ascii "1 0 3 4 2 5 1 1\n"
+    ++ ascii "2 1 4 2 2 5 1 2\n"
+    ++ ascii "3 2 4 0 1 5 1 1\n"
+    ++ ascii "4 4 5 0 1 5 1 2\n"
+    ++ ascii "5 5 - 0 0 5 1 1\n"
+    ++ ascii "bound 2 volume 2 share 7 0\n")
+    ∷ ascii "refused 22\n"
     ∷ []
 
 -- No vertex, and part of one, with anything; more than 1,000 vertices; more than 4,000 ties; part of a record behind 1,000 vertices,
@@ -110,7 +124,7 @@ refusedRuns =
     ∷ []
 
 pub paper : computed ≡ printed
-unfolding computed printed marks ties want zeros ascii decimal runText runRefusal fileRefusal tooMany partRecord notRecords rankedTies runNet vertexCount edgeCount order edgeList limit blocks refusedText spaced newlined parentText lineText rankText linesBelow shareText totalsText reportText decidedText words wordAt bytesOf unless first given wrongLength badOrder badLimits firstFault tiesOf edges edgeFault fault tooHeavy netOf relabelled figures reach divided lower owner weight weights edgeBlocks edgeBlock blockCount different blocksAt filtered touches bound boundOf isCut volume volumeOf shareOf evenShare totalsOf tabulate sum count member
+unfolding computed printed marks ties rowed want zeros ascii decimal runText runRefusal fileRefusal tooMany partRecord notRecords rankedTies runNet vertexCount edgeCount order edgeList limit blocks refusedText spaced newlined parentText lineText rankText linesBelow shareText totalsText reportText decidedText words wordAt bytesOf unless first given wrongLength badOrder badLimits firstFault tiesOf edges edgeFault fault tooHeavy netOf relabelled figures reach divided lower owner weight weights edgeBlocks edgeBlock blockCount different blocksAt filtered touches bound boundOf isCut volume volumeOf shareOf evenShare totalsOf tabulate sum count member
 paper = refl
 
 pub refused : refusedRuns ≡ 1 ∷ 1 ∷ 2 ∷ 2 ∷ 6 ∷ 6 ∷ 6 ∷ 3 ∷ 8 ∷ 8 ∷ 4 ∷ 5 ∷ 8 ∷ 32 ∷ []
