@@ -3,9 +3,11 @@
 use mathlib.Core.Path.{_≡_, refl, sym, ap, _∙_}
 use mathlib.Core.Bool.{Bool, true, false, not}
 use mathlib.Core.List.{List}
+use Prim.Native.Nat.{ℕ}
 use lib.ListN.{length}
 use borrow.Author.Tests.{not-false}
-use Rattle.game.specs.Edge.{Tie}
+use Rattle.game.specs.Edge.{Tie, ties, edges}
+use Rattle.game.specs.Game.{forest}
 use Rattle.game.specs.Net.{Net, netOf}
 use Rattle.refusal.specs.Refusal.{given}
 use Rattle.refusal.proofs.First.{given-true, given-none}
@@ -24,6 +26,11 @@ unfolding unlike
 passed-same of ts z =
     let grown : Net = netOf (length (of .parents)) ts in
     same-net of grown (not-false (sameNet of grown) (given-none (not (sameNet of grown)) 22 z))
+
+-- the net's forest is then that of the edges
+pub passed-forest : (of : Net) (xs : List ℕ) → unlike of (ties xs) ≡ 0 → of .parents ≡ forest (length (of .parents)) (edges xs)
+unfolding netOf edges
+passed-forest of xs z = ap (λ (net : Net). net .parents) (passed-same of (ties xs) z)
 
 -- what a test that was made tells: the ties are the net's own, or they are refused
 module _ (of : Net) (ts : List Tie) {same : Bool} (test : same ≡ sameNet of (netOf (length (of .parents)) ts)) where

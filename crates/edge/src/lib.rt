@@ -59,16 +59,10 @@ pub fn charges(list: &[u32]) -> u64
     let mut sum: u64 = 0;
     let mut i = 0;
     while i < m {
-        sum += wide(rows(list, i));
+        sum += table::amount(rows(list, i));
         i += 1;
     }
     sum
-}
-
-fn wide(x: u32) -> u64
-    ensures { λ r. ⌜ r ≡ x ⌝ }
-{
-    x as u64
 }
 
 // Writes the tie with number i.

@@ -1,8 +1,8 @@
 -- Edges between vertices, and ties: edges with their rows. Vertices are named by their rank, their place in the elimination order, from 0.
 --
 -- Document 01: "A tie is an unordered pair of two ranks. Ties may repeat." Document 02, Paper 6: "A tie record gains a third 32-bit number,
--- its rows, and tie lists carry three numbers to a tie". Here the pair is an edge, and a tie is an edge with its rows. Forests, reaches and
--- blocks go by edges alone. The data keeps the ends in the order in which they were written; no definition looks at that order.
+-- its rows, and tie lists carry three numbers to a tie". Here the pair is an edge, and a tie is an edge with its rows. Forests and reaches
+-- go by edges alone. The data keeps the ends in the order in which they were written; no definition looks at that order.
 -- Assumes nothing.
 use mathlib.Core.Bool.{Bool, _||_}
 use mathlib.Core.List.{List, [], _∷_, map}

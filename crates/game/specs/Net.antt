@@ -25,7 +25,7 @@ unfoldable pub owner : Edge → ℕ
 unfolding lower
 owner e = lower e
 
--- "Load of x: the number of ties whose lower end is x, repeats counted"; since Paper 6 "Load is the sum of rows": what is charged to x
+-- "Load of x: the number of ties whose lower end is x, repeats counted"; by document 02, Paper 6, "Load is the sum of rows"
 unfoldable pub weight : List Tie → ℕ → ℕ
 unfolding owner sum
 weight ts x = sum (map (λ (t : Tie). cond (eqb (owner (t .edge)) x) (t .rows) 0) ts)

@@ -21,7 +21,7 @@ use Rattle.compare.specs.Compare.{unlike}
 use Rattle.report_write.specs.Written.{Written, figures}
 use Rattle.report_refusal.specs.Refused.{reportEarly}
 use Rattle.report.specs.Report.{Lent, wrongLent, reportRefusal, reportOutcome}
-use Rattle.compare.proofs.Unlike.{passed-same}
+use Rattle.compare.proofs.Unlike.{passed-same, passed-forest}
 use Rattle.report.proofs.Refused.{ready}
 
 module _ (of : Net) (B k : ℕ) (xs : List ℕ) (was : Lent) {totals : Totals} (answer : reportOutcome of B k xs was .verdict ≡ accepted totals) where
@@ -42,8 +42,7 @@ module _ (of : Net) (B k : ℕ) (xs : List ℕ) (was : Lent) {totals : Totals} (
   own = passed-same of (ties xs) (passed .1)
 
   pub own-forest : of .parents ≡ forest (length (of .parents)) (edges xs)
-  unfolding netOf edges
-  own-forest = ap (λ (net : Net). net .parents) own
+  own-forest = passed-forest of xs (passed .1)
 
   -- what is written are the figures
   pub written-figures : reportOutcome of B k xs was .tables .written ≡ figures of B k (edges xs)

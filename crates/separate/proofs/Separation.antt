@@ -10,7 +10,7 @@ use lib.ListN.{length, getD, take, drop}
 use lib.Seq.{take-append-seam}
 use Rattle.game.specs.Edge.{Edge, ties, edges}
 use Rattle.game.specs.Game.{absent, forest}
-use Rattle.game.specs.Net.{Net, netOf}
+use Rattle.game.specs.Net.{Net}
 use Rattle.game.specs.Graph.{Proper}
 use Rattle.game.proofs.Lists.{Rising, done, more}
 use Rattle.game.proofs.Ancestors.{ancestor-climbs}
@@ -19,7 +19,7 @@ use Rattle.refusal.specs.Verdict.{accepted}
 use Rattle.refusal.proofs.First.{first-none, given-none}
 use Rattle.refusal.proofs.Fault.{list-proper}
 use Rattle.refusal.proofs.Ends.{accepted-none, accepted-values}
-use Rattle.compare.proofs.Unlike.{passed-same}
+use Rattle.compare.proofs.Unlike.{passed-forest}
 use Rattle.ancestry.specs.declared.Lowest.the-variants.{Vertex, Nothing}
 use Rattle.ancestry.specs.declared.Separator.{Separator}
 use Rattle.ancestry.specs.Common.{commonAncestors, related, atFront}
@@ -117,7 +117,7 @@ module _ (of : Net) (a b : ℕ) (xs : List ℕ) (was : SeparateTables) (its : Se
   accepted-lowest = ap (λ (s : Separator). s .lowest) (sym (accepted-values (separateRefusal of a b xs was) (separatorOf (commonAncestors (of .parents) a b)) answer))
 
   pub separate-separates : Separates (of .parents) (edges xs) a b (its .lowest) (take (its .count) (separateOutcome of a b xs was .tables .listed))
-  unfolding netOf grownRefusal edges
+  unfolding grownRefusal
   separate-separates =
       rw (accepted-lists, accepted-lowest)
       (subst (λ (p : List ℕ). Separates p (edges xs) a b (lowestOf (commonAncestors p a b)) (commonAncestors p a b)) (sym own)
@@ -128,7 +128,7 @@ module _ (of : Net) (a b : ℕ) (xs : List ℕ) (was : SeparateTables) (its : Se
       r = ready of a b xs was early
 
       own : of .parents ≡ forest (length (of .parents)) (edges xs)
-      own = ap (λ (of : Net). of .parents) (passed-same of (ties xs) (first-none _ _ late .0))
+      own = passed-forest of xs (first-none _ _ late .0)
 
       apart : related (of .parents) a b ≡ false
       apart = given-none _ 30 (first-none _ _ (first-none _ _ late .1) .0)

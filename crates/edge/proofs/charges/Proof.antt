@@ -24,15 +24,15 @@ loop-holds c = (edge-start (c .count .ensures), omega arith)
 rows-requires : tie.Need-rows-requires Inv-loop μ-loop
 rows-requires c κs = edge-inside (c .before .loop .inv .0) (c .loop-test .taken)
 
-wide-requires : tie.Need-wide-requires Inv-loop μ-loop
-wide-requires c κs = search needs
+amount-requires : tie.Need-amount-requires Inv-loop μ-loop
+amount-requires c κs = search needs
 
 add-sum : tie.Need-add-sum Inv-loop μ-loop
 add-sum c =
     let at-rows = c .before in
     let at-loop-test = at-rows .before in
     let t = at-loop-test .before .loop .inv in
-    omega (arith, t .1, c .wide .ensures, charges-here _ (t .0) (at-loop-test .loop-test .taken) (at-rows .rows .ensures), at-loop-test .before .before .before .before .pre)
+    omega (arith, t .1, c .amount .ensures, charges-here _ (t .0) (at-loop-test .loop-test .taken) (at-rows .rows .ensures), at-loop-test .before .before .before .before .pre)
 
 add-i : tie.Need-add-i Inv-loop μ-loop
 add-i c = search needs
@@ -46,7 +46,7 @@ loop-again c =
     let at-loop-test = at-rows .before in
     let t = at-loop-test .before .loop .inv in
     let h = at-loop-test .loop-test .taken in
-    (edge-next (t .0) h, omega (arith, t .1, c .wide .ensures, charges-here _ (t .0) h (at-rows .rows .ensures)))
+    (edge-next (t .0) h, omega (arith, t .1, c .amount .ensures, charges-here _ (t .0) h (at-rows .rows .ensures)))
 
 returns : tie.Need-returns Inv-loop μ-loop
 returns c = let t = c .before .loop .inv in omega (arith, t .1, charges-end _ (t .0) (c .loop-test .left))
@@ -60,7 +60,7 @@ charges-spec =
     count-requires
     loop-holds
     rows-requires
-    wide-requires
+    amount-requires
     add-sum
     add-i
     loop-less
