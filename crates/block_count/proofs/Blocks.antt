@@ -38,7 +38,7 @@ module _ {A : Type 0} (t : A → Bool) where
       (Memᴰ.cases_cons (rw (filtered-take xs e) at m)))
       (λ e. let i = filtered-in xs (rw (filtered-leave xs e) at m) in (Memᴰ.tail i.0, i.1))
 
-  pub in-filtered : {xs : List A} {a : A} → Memᴰ a xs → t a ≡ true → Memᴰ a (filtered t xs)
+  pub in-filtered : {a : A} {xs : List A} → Memᴰ a xs → t a ≡ true → Memᴰ a (filtered t xs)
   in-filtered (Memᴰ.head {xs = xs} q) e = rw (filtered-take xs (sym (ap t q) ∙ e)) (Memᴰ.head q)
   in-filtered (Memᴰ.tail {x = x} {xs = xs} m) e =
       test-cases (t x)
@@ -52,7 +52,7 @@ module _ (block : List ℕ) where
   blocks-in (e ∷ es) m =
       ⊎_elim (λ q. (e, Memᴰ.head refl, sym q)) (λ r. let (f, i, q) = blocks-in es r in (f, Memᴰ.tail i, q)) (Memᴰ.cases_cons m)
 
-  in_blocks : {es : List Edge} {e : Edge} → Memᴰ e es → Memᴰ (edge_block block e) (edge_blocks_of block es)
+  in_blocks : {e : Edge} {es : List Edge} → Memᴰ e es → Memᴰ (edge_block block e) (edge_blocks_of block es)
   unfolding edge_blocks_of
   in_blocks (Memᴰ.head q) = Memᴰ.head (ap (edge_block block) q)
   in_blocks (Memᴰ.tail m) = Memᴰ.tail (in_blocks m)

@@ -73,7 +73,7 @@ module _ (deal : Tie → ℕ) where
         ⊎_elim (parts_in js) (λ i. (filtered-in (λ t. eqb (deal t) j) ts i).0) (Memᴰ.append_cases (together (map (part ts) js)) m)
 
     -- a tie of the list is of the part that has its number
-    in_parts : {js : List ℕ} {t : Tie} → Memᴰ t ts → Memᴰ (deal t) js → Memᴰ t (together (map (part ts) js))
+    in_parts : {t : Tie} {js : List ℕ} → Memᴰ t ts → Memᴰ (deal t) js → Memᴰ t (together (map (part ts) js))
     unfolding together part
     in_parts {t = t} m (Memᴰ.head {x = j} {xs = js} q) =
         Memᴰ.append_right (together (map (part ts) js)) (in-filtered (λ t. eqb (deal t) j) m (eq-eqb (deal t) j q))

@@ -71,7 +71,7 @@ module _ (h : ℕ) where
 
 -- the sum over a list, under a rule that gives each entry a number
 module _ (c : ℕ → ℕ) where
-  pub sum-entry-in : {ys : List ℕ} {z : ℕ} → Memᴰ z ys → c z ≤ sum (map c ys)
+  pub sum-entry-in : {z : ℕ} {ys : List ℕ} → Memᴰ z ys → c z ≤ sum (map c ys)
   unfolding sum
   sum-entry-in {z = z} (mathlib.Core.List.Memᴰ.head {x = y} e) = omega (arith, ap c e)
   sum-entry-in (mathlib.Core.List.Memᴰ.tail m) = omega (arith, sum-entry-in m)

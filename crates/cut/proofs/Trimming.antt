@@ -42,7 +42,8 @@ module _ (c : ℕ → ℕ) (B own : ℕ) where
   unfolding trim
   trim-cut k done b l = absurd (Memᴰ.not-nil b.inside)
   trim-cut k (more {y = y} {ys = ys} i r) b l =
-      rw (lt-ltb B (carries c own (y ∷ ys)) l, best-unique b (heaviest-is c y ys r))
+      rw (lt-ltb B (carries c own (y ∷ ys)) l)
+      (ap (λ (z : ℕ). trim k c B own (without z (y ∷ ys))) (sym (best-unique b (heaviest-is c y ys r))))
 
   -- one turn: it ends, or the heaviest is cut
   turn : {A : Type 0} (k : ℕ) {a : ℕ} {ys : List ℕ} → Rising a ys

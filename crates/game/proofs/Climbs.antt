@@ -27,12 +27,12 @@ pub link-same : (p : List ℕ) {x b c : ℕ} → Memᴰ (x ─ b) (links p) → 
 link-same p l m = sym (link-inv p l).1 ∙ (link-inv p m).1
 
 module _ {p : List ℕ} (s : Sound p) where
-  pub climbs-le : {x y : ℕ} → Climbs p y x → x ≤ y
+  pub climbs-le : {y x : ℕ} → Climbs p y x → x ≤ y
   climbs-le {y = y} top = le_refl y
   climbs-le (up m k) = le_trans (le_of_lt (link_up s m).0) (climbs-le k)
 
   -- who climbs to y is joined to y at height y
-  pub climbs-conn : {x y : ℕ} → Climbs p y x → Conn (links p) y x y
+  pub climbs-conn : {y x : ℕ} → Climbs p y x → Conn (links p) y x y
   climbs-conn {y = y} top = stay (le_refl y)
   climbs-conn (up m k) = conn-trans (conn-step (forth m) (climbs-le (up m k)) (climbs-le k)) (climbs-conn k)
 
@@ -41,7 +41,7 @@ module _ {p : List ℕ} (s : Sound p) where
   climbs-step {c = c} {y = y} top (forth m) h = absurd (omega (arith, (link_up s m).0))
   climbs-step {y = y} (up n k) (forth m) h = subst (Climbs p y) (link-same p n m) k
 
-  climbs-walk : {b y : ℕ} → Conn (links p) y y b → Climbs p y b
+  climbs-walk : {y b : ℕ} → Conn (links p) y y b → Climbs p y b
   climbs-walk (stay h) = top
   climbs-walk (go w l h) = climbs-step (climbs-walk w) l h
 

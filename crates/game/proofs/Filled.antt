@@ -118,7 +118,7 @@ clique-in (u ∷ s) {v} {w} l =
     first (back m) = let t = star-ends u s m in (Memᴰ.tail t.1, Memᴰ.head t.0)
 
 -- two different members of a clique are linked
-pub in-clique : {s : List ℕ} {v w : ℕ} → Memᴰ v s → Memᴰ w s → v ≢ w → Linked (clique s) v w
+pub in-clique : {v w : ℕ} {s : List ℕ} → Memᴰ v s → Memᴰ w s → v ≢ w → Linked (clique s) v w
 unfolding clique star
 in-clique (Memᴰ.head e) (Memᴰ.head f) d = absurd (d (e ∙ sym f))
 in-clique (Memᴰ.head {xs = s} e) (Memᴰ.tail n) d = linked-left (clique s) (forth (star-edge e n))

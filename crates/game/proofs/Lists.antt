@@ -38,7 +38,7 @@ module _ (t : ℕ → Bool) where
       (Memᴰ.cases_cons (rw (filtered-take ys e) at m)))
       (λ e. let i = filtered-in ys (rw (filtered-leave ys e) at m) in (Memᴰ.tail i.0, i.1))
 
-  pub in-filtered : {ys : List ℕ} {z : ℕ} → Memᴰ z ys → t z ≡ true → Memᴰ z (filtered t ys)
+  pub in-filtered : {z : ℕ} {ys : List ℕ} → Memᴰ z ys → t z ≡ true → Memᴰ z (filtered t ys)
   in-filtered (Memᴰ.head {xs = ys} q) e = rw (filtered-take ys (sym (ap t q) ∙ e)) (Memᴰ.head q)
   in-filtered (Memᴰ.tail {x = y} {xs = ys} m) e =
       test-cases (t y)

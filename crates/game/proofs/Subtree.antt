@@ -22,12 +22,12 @@ use Rattle.game.proofs.Climbs.{Climbs, top, up, link-same, climbs-le}
 use Rattle.game.proofs.Ancestors.{under-climbs, climbs-under}
 
 -- climbs are joined end to end
-pub climbs-trans : {p : List ℕ} {x y z : ℕ} → Climbs p y x → Climbs p z y → Climbs p z x
+pub climbs-trans : {p : List ℕ} {y z x : ℕ} → Climbs p y x → Climbs p z y → Climbs p z x
 climbs-trans top k = k
 climbs-trans (up m j) k = up m (climbs-trans j k)
 
 -- two climbs from one vertex go one along the other
-pub climbs-chain : {p : List ℕ} {u x y : ℕ} → Climbs p x u → Climbs p y u → Climbs p y x ⊎ Climbs p x y
+pub climbs-chain : {p : List ℕ} {x y u : ℕ} → Climbs p x u → Climbs p y u → Climbs p y x ⊎ Climbs p x y
 climbs-chain top k = inl k
 climbs-chain (up m j) top = inr (up m j)
 climbs-chain {p} {x = x} (up m j) (up n k) = climbs-chain j (subst (Climbs p _) (link-same p n m) k)
@@ -48,7 +48,7 @@ climbs-parent top d = absurd (d refl)
 climbs-parent {p} (up m k) d = let l = link-inv p m in (l.0, λ a. l.2 (sym l.1 ∙ a))
 
 -- a climb stays in the table
-pub climbs-inside : {p : List ℕ} → Sound p → {x y : ℕ} → Climbs p y x → x < length p → y < length p
+pub climbs-inside : {p : List ℕ} → Sound p → {y x : ℕ} → Climbs p y x → x < length p → y < length p
 climbs-inside s top h = h
 climbs-inside s (up m k) h = climbs-inside s k (link_up s m).1
 

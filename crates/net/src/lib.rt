@@ -10,7 +10,7 @@ ghost use Rattle.net.specs.Damage.{damaged_by};
 use table::{amount, narrow};
 
 // What a call knows of a net whose tables it has read: its total weight.
-#[derive(Drop)]
+#[derive(Clone, Copy)]
 pub struct Net {
     pub total: u64,
 }

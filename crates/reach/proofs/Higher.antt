@@ -36,7 +36,7 @@ low_up : {g : List Edge} {x a b : ℕ} → Low g x a b → Low g (suc x) a b
 low_up (once l) = once l
 low_up (more w h l) = more (low_up w) (omega arith) l
 
-low-trans : {g : List Edge} {x a b c : ℕ} → Low g x a c → c < x → Low g x c b → Low g x a b
+low-trans : {g : List Edge} {x a c b : ℕ} → Low g x a c → c < x → Low g x c b → Low g x a b
 low-trans w h (once l) = more w h l
 low-trans w h (more v k l) = more (low-trans w h v) k l
 

@@ -25,7 +25,7 @@ module _ {p : List ℕ} (s : Sound p) (u : length p ≤ absent) where
   unfolding root
   root-climbs x = ⊎_elim (λ e. rw e top) (ancestor-climbs u) (last-in x (ancestors p x))
 
-  pub climbs-one-root : {x y : ℕ} → Climbs p y x → root p x ≡ root p y
+  pub climbs-one-root : {y x : ℕ} → Climbs p y x → root p x ≡ root p y
   unfolding root last
   climbs-one-root top = refl
   climbs-one-root (up {x = x} {c = c} m k) =

@@ -7,7 +7,7 @@ ghost use Rattle.share.specs.Share.{even_share, check_sum};
 use table::{amount, narrow};
 
 // What each block gets, and what is left over; with the number of blocks, so that it can be summed up again.
-#[derive(Drop)]
+#[derive(Clone, Copy)]
 pub struct Share {
     quotient: u32,
     remainder: u32,
