@@ -1,4 +1,5 @@
 // The program `blocks`: it reads `marks.ord`, `ties.rec` and `want.rec`, and prints what a run on their bytes says.
+#![tactic(auto)]
 ghost use Rattle.std.specs.Prelude.{◌≡◌};
 ghost use Rattle.files.specs.Files.{marks_front, ties_front, want_front};
 ghost use Rattle.io.specs.Counts.{IsPrefixLen};

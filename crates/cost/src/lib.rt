@@ -1,5 +1,6 @@
 // What a division costs: the block of each edge, the bound and the volume of communication between the blocks, and beside them the even
 // share of a block.
+#![tactic(auto)]
 mod summing;
 
 ghost use Rattle.std.specs.Prelude.{◌≡◌, length};

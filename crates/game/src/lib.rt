@@ -1,1 +1,2 @@
 // No code: this crate holds the definitions that every other crate's contracts cite, and their laws.
+#![tactic(auto)]

@@ -1,4 +1,5 @@
 // Forests grown by union-find over edges that are filed. The caller lends the room.
+#![tactic(auto)]
 mod climbing;
 mod raising;
 mod work;

@@ -1,1 +1,2 @@
 // No code: the theorem about every list of calls.
+#![tactic(auto)]

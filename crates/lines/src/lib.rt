@@ -1,4 +1,5 @@
 // The text of a run, from a report's answer and its tables, or from the number of a refusal.
+#![tactic(auto)]
 mod fields;
 mod lines;
 

@@ -1,6 +1,7 @@
 // The call separate: what lies between two vertices (document 02, Paper 5), that is, the vertices above both, given the net's own edges.
 // Like a report it decides by reading alone, up to 20; then it grows the net of the edges into the comparison tables and compares; only
 // then does it walk up from the two.
+#![tactic(auto)]
 mod refusals;
 
 ghost use Rattle.std.specs.Prelude.{◌≡◌};

@@ -1,0 +1,12 @@
+use native.Mathlib.Omega.{arith}
+use mathlib.Core.Path.{◌≡◌, refl, sym, ◌∙◌}
+use Prim.Native.Nat.{◌+◌, ◌-◌}
+use lib.ListN.{length}
+use Rattle.block_count.proofs.Stamps.{AtTurn, at-start, at-few, at-step, at_all, at-end}
+use Rattle.block_count.proofs.counting.count_at.Given as goal
+
+abbrev pub invariant-loop-i : goal.invariant-loop-i
+invariant-loop-i l = (l.stamp ≡ l.y + 1) × AtTurn l.all l.block l.y l.up l.lower l.stamps l.count l.i
+
+abbrev pub decreases-loop-i : goal.decreases-loop-i
+decreases-loop-i l = length l.lower - l.i

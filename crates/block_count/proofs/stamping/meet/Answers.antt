@@ -1,0 +1,8 @@
+use Rattle.block_count.proofs.Stamps.{met-again, met-first}
+use Rattle.block_count.proofs.stamping.meet.Goals as goal
+
+pub returns-then-stamps-at : goal.returns-then-stamps-at
+returns-then-stamps-at c = met-again _ _ c.wide-at.ensures c.if-stamps-at.true
+
+pub returns : goal.returns
+returns c = met-first c.args.stamps.now _ c.wide-at.ensures c.if-stamps-at.false

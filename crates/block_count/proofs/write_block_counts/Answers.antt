@@ -1,0 +1,18 @@
+use native.Mathlib.Omega.{arith}
+use mathlib.Core.Path.{refl, ◌∙◌}
+use Rattle.block_count.proofs.Written.{count-ready, sweep-ready, all-written}
+use Rattle.block_count.proofs.write_block_counts.Goals as goal
+
+pub slice_bounds-count_buckets-count : goal.slice_bounds-count_buckets-count
+slice_bounds-count_buckets-count c = omega arith
+
+pub count_buckets-requires : goal.count_buckets-requires
+count_buckets-requires c = count-ready c.requires c.wide.ensures refl
+
+pub settle-requires : goal.settle-requires
+settle-requires c =
+    let k = c.count_buckets.auto in sweep-ready c.requires c.count_buckets.ensures k.1.1.1.1.1.0 k.1.1.1.1.1.1.0
+
+pub returns : goal.returns
+returns c =
+    let k = c.count_buckets.auto in let m = c.settle.auto in all-written c.requires c.count_buckets.ensures k.1.1.1.1.0 (m.1.1.1.0 ∙ k.1.1.1.1.1.0) c.settle.ensures

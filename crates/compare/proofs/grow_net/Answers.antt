@@ -1,0 +1,20 @@
+use Rattle.compare.proofs.Compared.{net-sweepable, net-fileable, net-growable, net-grown}
+use Rattle.compare.proofs.grow_net.Goals as goal
+
+pub sweep-requires : goal.sweep-requires
+sweep-requires c =
+    net-sweepable c.requires c.fill-3.ensures c.fill-2.ensures
+
+pub file_counted-requires : goal.file_counted-requires
+file_counted-requires c =
+    let f = net-fileable c.requires c.fill-3.ensures c.fill-2.ensures c.sweep.ensures in
+    (f.0, (f.1, (f.2, f.3)))
+
+pub grow_kept-requires : goal.grow_kept-requires
+grow_kept-requires c =
+    net-growable c.requires c.fill-3.ensures c.fill-2.ensures c.sweep.ensures c.fill.ensures c.file_counted.ensures
+
+pub returns : goal.returns
+returns c =
+    let g = c.grow_kept.ensures in
+    net-grown c.requires c.fill-3.ensures c.fill-2.ensures c.sweep.ensures c.fill.ensures c.file_counted.ensures g.grown g.kept

@@ -1,0 +1,16 @@
+use mathlib.Core.Path.{sym, ap, ◌∙◌}
+use mathlib.Core.Bool.{Bool, ◌&&◌}
+use borrow.Author.Tests.{not-true, not-false}
+use Rattle.compare.specs.Likeness.{same_net, same_table}
+use Rattle.compare.proofs.likeness.same_net.Goals as goal
+
+pub returns-then-not-same_table : goal.returns-then-not-same_table
+unfolding same_net
+returns-then-not-same_table c =
+    ap (λ (b : Bool). b && same_table c.args.weights.now c.args.other-weights.now) (sym (not-true _ c.if-not-same_table.true-raw) ∙ c.same_table.ensures)
+
+pub returns : goal.returns
+unfolding same_net
+returns c =
+    c.same_table-2.ensures
+    ∙ ap (λ (b : Bool). b && same_table c.args.weights.now c.args.other-weights.now) (sym (not-false _ c.if-not-same_table.false-raw) ∙ c.same_table.ensures)

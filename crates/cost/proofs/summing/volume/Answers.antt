@@ -1,0 +1,27 @@
+use native.Mathlib.Omega.{arith}
+use mathlib.Core.Path.{◌≡◌, sym, ap, ◌∙◌}
+use Prim.Native.Nat.{ℕ, ◌*◌, ◌-◌, ◌≤◌}
+use lib.ListN.{length}
+use Rattle.game.specs.Table.{tabulate, sum as total}
+use Rattle.cost.specs.SummingSteps.{volume_term, volume_by}
+use Rattle.cost.proofs.Sums.{sum_step, sum-none}
+use Rattle.cost.proofs.summing.volume.Goals as goal
+
+pub loop-x-init : goal.loop-x-init
+loop-x-init c = (omega arith, sym (sum-none _), omega arith)
+
+pub overflow_add-sum : goal.overflow_add-sum
+overflow_add-sum c = omega (arith, c.shared_slice_known-in-loop-x-1.given c.loop-x.x, c.shared-sum.ensures)
+
+pub loop-x-preserved : goal.loop-x-preserved
+unfolding volume_term
+loop-x-preserved c =
+    (
+      omega arith,
+      sum_step _ c.loop-x.x c.loop-x.invariant.1 c.shared-sum.ensures,
+      omega (arith, c.shared_slice_known-in-loop-x-1.given c.loop-x.x, c.shared-sum.ensures),
+    )
+
+pub returns : goal.returns
+unfolding volume_by
+returns c = c.loop-x.invariant.1 ∙ ap (λ (n : ℕ). total (tabulate n (volume_term c.args.block-count.now))) (omega arith)

@@ -1,0 +1,15 @@
+use native.Mathlib.Omega.{arith}
+use mathlib.Core.Path.{◌≡◌, sym, ap, ◌∙◌}
+use Prim.Native.Nat.{ℕ, ◌*◌, ◌-◌, ◌≤◌}
+use lib.ListN.{length}
+use Rattle.game.specs.Table.{tabulate, sum as total}
+use Rattle.cost.specs.SummingSteps.{volume_term, volume_by}
+use Rattle.cost.proofs.Sums.{sum_step, sum-none}
+use Rattle.cost.proofs.summing.volume.Given as goal
+
+abbrev pub invariant-loop-x : goal.invariant-loop-x
+invariant-loop-x l =
+    (l.x ≤ length l.block_count) × (l.sum ≡ total (tabulate l.x (volume_term l.block_count))) × (l.sum ≤ 4294967295 * l.x)
+
+abbrev pub decreases-loop-x : goal.decreases-loop-x
+decreases-loop-x l = length l.block_count - l.x

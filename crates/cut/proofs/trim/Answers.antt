@@ -1,0 +1,149 @@
+use native.Mathlib.Omega.{arith}
+use mathlib.Core.Path.{◌≡◌}
+use mathlib.Core.Logic.{◌⊎◌, inl, inr, ⊎_elim}
+use Prim.Native.Nat.{◌-◌, ◌<◌, ◌≤◌}
+use Rattle.game.specs.Game.{absent}
+use Rattle.cut.proofs.Turns.{Turn, Scanning, Found, turns_left, restart-less, turn-begin, turn_inside, turn-few, turn-restart, turn-none, turn-found, turn-cut, turn-done, turn-less, scan-begin, at-inside, at_up, scan-taken, scan-passed, cut_inside, cut-least}
+use borrow.Author.Tests.{ltb-false}
+use Rattle.cut.proofs.trim.Invariants.{over, seen, found}
+use Rattle.cut.proofs.trim.Goals as goal
+
+pub cut-init : goal.cut-init
+cut-init c = turn-begin c.requires.loaded c.requires.candidates
+
+pub overflow_add-weight : goal.overflow_add-weight
+overflow_add-weight c = omega (arith, c.cut.invariant.small)
+
+pub loop-child-init : goal.loop-child-init
+loop-child-init c =
+    scan-begin c.requires.loaded c.requires.candidates c.cut.invariant
+
+pub offset_bounds-link-at : goal.offset_bounds-link-at
+offset_bounds-link-at c =
+    omega (
+      arith,
+      at-inside c.loop-child.invariant (turn_inside c.requires.loaded c.requires.candidates c.cut.invariant) (turn-few c.requires.loaded c.requires.candidates c.cut.invariant)
+          c.loop-child-test.true c.wide-at.ensures,
+      c.requires.loaded.few,
+      c.requires.loaded.tails,
+      c.requires.loaded.told,
+      c.cut.invariant.size,
+    )
+
+pub bounds-link-at : goal.bounds-link-at
+bounds-link-at c =
+    at-inside c.loop-child.invariant (turn_inside c.requires.loaded c.requires.candidates c.cut.invariant) (turn-few c.requires.loaded c.requires.candidates c.cut.invariant) c.loop-child-test.true c.wide-at.ensures
+
+pub offset_bounds-carried-at : goal.offset_bounds-carried-at
+offset_bounds-carried-at c =
+    omega (
+      arith,
+      at-inside c.loop-child.invariant (turn_inside c.requires.loaded c.requires.candidates c.cut.invariant) (turn-few c.requires.loaded c.requires.candidates c.cut.invariant)
+          c.loop-child-test.true c.wide-at.ensures,
+      c.requires.loaded.few,
+      c.requires.loaded.tails,
+      c.requires.loaded.told,
+      c.cut.invariant.size,
+    )
+
+pub bounds-carried-at : goal.bounds-carried-at
+bounds-carried-at c =
+    omega (
+      arith,
+      at-inside c.loop-child.invariant (turn_inside c.requires.loaded c.requires.candidates c.cut.invariant) (turn-few c.requires.loaded c.requires.candidates c.cut.invariant)
+          c.loop-child-test.true c.wide-at.ensures,
+      c.requires.loaded.few,
+      c.requires.loaded.tails,
+      c.requires.loaded.told,
+      c.cut.invariant.size,
+    )
+
+pub offset_bounds-next-at : goal.offset_bounds-next-at
+offset_bounds-next-at c =
+    omega (
+      arith,
+      at-inside c.loop-child.invariant (turn_inside c.requires.loaded c.requires.candidates c.cut.invariant) (turn-few c.requires.loaded c.requires.candidates c.cut.invariant)
+          c.loop-child-test.true c.wide-at.ensures,
+      c.requires.loaded.few,
+      c.requires.loaded.tails,
+      c.requires.loaded.told,
+      c.cut.invariant.size,
+    )
+
+pub bounds-next-at : goal.bounds-next-at
+bounds-next-at c =
+    omega (
+      arith,
+      at-inside c.loop-child.invariant (turn_inside c.requires.loaded c.requires.candidates c.cut.invariant) (turn-few c.requires.loaded c.requires.candidates c.cut.invariant)
+          c.loop-child-test.true c.wide-at.ensures,
+      c.requires.loaded.few,
+      c.requires.loaded.tails,
+      c.requires.loaded.told,
+      c.cut.invariant.size,
+    )
+
+pub loop-child-smaller : goal.loop-child-smaller
+loop-child-smaller c =
+    omega (
+      arith,
+      at_up c.loop-child.invariant (turn_inside c.requires.loaded c.requires.candidates c.cut.invariant) (turn-few c.requires.loaded c.requires.candidates c.cut.invariant)
+          c.loop-child-test.true c.wide-at.ensures,
+      at-inside c.loop-child.invariant (turn_inside c.requires.loaded c.requires.candidates c.cut.invariant)
+          (turn-few c.requires.loaded c.requires.candidates c.cut.invariant) c.loop-child-test.true c.wide-at.ensures,
+      c.requires.loaded.few,
+      c.requires.loaded.tails,
+      c.requires.loaded.told,
+      c.cut.invariant.size,
+    )
+
+pub loop-child-preserved : goal.loop-child-preserved
+loop-child-preserved c =
+    ⊎_elim
+    (λ w. scan-taken c.loop-child.invariant (turn_inside c.requires.loaded c.requires.candidates c.cut.invariant) (turn-few c.requires.loaded c.requires.candidates c.cut.invariant)
+    c.loop-child-test.true c.wide-at.ensures c.weight_on-here.ensures w.0.taken w.1 w.2)
+    (λ w. scan-passed c.loop-child.invariant (turn_inside c.requires.loaded c.requires.candidates c.cut.invariant) (turn-few c.requires.loaded c.requires.candidates c.cut.invariant)
+    c.loop-child-test.true c.wide-at.ensures c.weight_on-here.ensures w.0.left w.1 w.2)
+    c.if-found-here.branch
+
+pub cut-smaller-then-start-first : goal.cut-smaller-then-start-first
+cut-smaller-then-start-first c = restart-less _ _ _ _ c.if-start-first.true
+
+pub cut-preserved-then-start-first : goal.cut-preserved-then-start-first
+cut-preserved-then-start-first c =
+    turn-restart c.requires.loaded c.requires.candidates c.cut.invariant
+
+pub offset_bounds-link-at-in-cut : goal.offset_bounds-link-at-in-cut
+offset_bounds-link-at-in-cut c =
+    omega (arith, cut_inside c.requires.loaded c.requires.candidates c.cut.invariant (found c) c.if-weight-uncut.false c.wide-at-in-cut.ensures, c.requires.loaded.few, c.requires.loaded.tails, c.requires.loaded.told, c.cut.invariant.size)
+
+pub bounds-link-at-in-cut : goal.bounds-link-at-in-cut
+bounds-link-at-in-cut c =
+    cut_inside c.requires.loaded c.requires.candidates c.cut.invariant (found c) c.if-weight-uncut.false c.wide-at-in-cut.ensures
+
+pub overflow_sub-uncut : goal.overflow_sub-uncut
+overflow_sub-uncut c =
+    cut-least c.requires.loaded c.requires.candidates c.cut.invariant (found c) c.if-weight-uncut.false c.wide-at-in-cut.ensures
+
+pub offset_bounds-next-at-in-cut : goal.offset_bounds-next-at-in-cut
+offset_bounds-next-at-in-cut c =
+    omega (arith, cut_inside c.requires.loaded c.requires.candidates c.cut.invariant (found c) c.if-weight-uncut.false c.wide-at-in-cut.ensures, c.requires.loaded.few, c.requires.loaded.tails, c.requires.loaded.told, c.cut.invariant.size)
+
+pub bounds-next-at-in-cut : goal.bounds-next-at-in-cut
+bounds-next-at-in-cut c =
+    omega (arith, cut_inside c.requires.loaded c.requires.candidates c.cut.invariant (found (at-wide2)) c.if-weight-uncut.false c.wide-at-in-cut.ensures, c.requires.loaded.few, c.requires.loaded.tails, c.requires.loaded.told, c.cut.invariant.size)
+
+pub cut-smaller : goal.cut-smaller
+cut-smaller c =
+    turn-less c.requires.loaded c.requires.candidates c.cut.invariant (found (at-wide2)) c.if-weight-uncut.false c.wide-at-in-cut.ensures
+
+pub cut-preserved : goal.cut-preserved
+cut-preserved c =
+    turn-cut c.requires.loaded c.requires.candidates c.cut.invariant (found (at-wide2)) c.if-weight-uncut.false c.wide-at-in-cut.ensures
+
+pub returns-then-weight-uncut : goal.returns-then-weight-uncut
+returns-then-weight-uncut c =
+    turn-done c.requires.loaded c.requires.candidates c.cut.invariant c.if-weight-uncut.true
+
+pub returns-then-found-floor : goal.returns-then-found-floor
+returns-then-found-floor c =
+    turn-none c.requires.loaded c.requires.candidates c.cut.invariant c.loop-child.invariant (over c) (seen c) c.if-found-floor.true

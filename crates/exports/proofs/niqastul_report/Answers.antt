@@ -1,0 +1,7 @@
+use Rattle.exports.proofs.Answered.{filled-as}
+use Rattle.exports.proofs.niqastul_report.Goals as goal
+
+pub returns : goal.returns
+returns c =
+    filled-as _ _ c.hand_totals.ensures.0 c.hand_totals.ensures.1
+    c.report-answer.ensures

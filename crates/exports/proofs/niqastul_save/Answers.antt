@@ -1,0 +1,5 @@
+use Rattle.exports.proofs.Answered.{handed-as}
+use Rattle.exports.proofs.niqastul_save.Goals as goal
+
+pub returns : goal.returns
+returns c = handed-as c.code.ensures c.save.ensures

@@ -1,0 +1,129 @@
+use native.Mathlib.Omega.{arith}
+use mathlib.Core.Path.{sym, ap, ◌∙◌}
+use mathlib.Core.Logic.{⊎_elim}
+use Prim.Native.Nat.{◌-◌}
+use lib.ListN.{length, length-set, length-replicate}
+use Rattle.groups.proofs.Ranks.{Cutting, cutting-begin, cutting-done, cutting-loaded, cutting-children, step-root, step-child, hand-inside, hand-fits}
+use Rattle.groups.proofs.cutting.cut.Goals as goal
+
+pub loop-x-init : goal.loop-x-init
+loop-x-init c =
+    cutting-begin c.requires.divisible c.requires.carried_value.0 c.requires.carried_value.1 c.requires.next_len
+
+pub lighten-kept-requires : goal.lighten-kept-requires
+lighten-kept-requires c =
+    (cutting-loaded c.requires.divisible c.loop-x.invariant c.loop-x-test.true, cutting-children c.requires.divisible c.loop-x.invariant c.loop-x-test.true)
+
+pub offset_bounds-link-above : goal.offset_bounds-link-above
+offset_bounds-link-above c =
+    omega (
+      arith,
+      hand-inside c.requires.divisible c.loop-x.invariant c.loop-x-test.true c.lighten-kept.ensures c.lighten-kept.auto.link
+          c.lighten-kept.auto.next c.wide-above.ensures c.if-parent.false,
+      c.requires.divisible.few,
+      c.loop-x.invariant.linked,
+      c.loop-x.invariant.told,
+      c.loop-x.invariant.tails,
+      c.lighten-kept.auto.link,
+    )
+
+pub bounds-link-above : goal.bounds-link-above
+bounds-link-above c =
+    omega (
+      arith,
+      hand-inside c.requires.divisible c.loop-x.invariant c.loop-x-test.true c.lighten-kept.ensures c.lighten-kept.auto.link
+          c.lighten-kept.auto.next c.wide-above.ensures c.if-parent.false,
+      c.requires.divisible.few,
+      c.loop-x.invariant.linked,
+      c.loop-x.invariant.told,
+      c.loop-x.invariant.tails,
+      c.lighten-kept.auto.link,
+    )
+
+pub offset_bounds-link-above-else-parent : goal.offset_bounds-link-above-else-parent
+offset_bounds-link-above-else-parent c =
+    omega (
+      arith,
+      hand-inside c.requires.divisible c.loop-x.invariant c.loop-x-test.true c.lighten-kept.ensures c.lighten-kept.auto.link
+          c.lighten-kept.auto.next c.wide-above.ensures c.if-parent.false,
+      c.requires.divisible.few,
+      c.loop-x.invariant.linked,
+      c.loop-x.invariant.told,
+      c.loop-x.invariant.tails,
+      c.lighten-kept.auto.link,
+    )
+
+pub bounds-link-above-else-parent : goal.bounds-link-above-else-parent
+bounds-link-above-else-parent c =
+    omega (
+      arith,
+      hand-inside c.requires.divisible c.loop-x.invariant c.loop-x-test.true c.lighten-kept.ensures c.lighten-kept.auto.link
+          c.lighten-kept.auto.next c.wide-above.ensures c.if-parent.false,
+      c.requires.divisible.few,
+      c.loop-x.invariant.linked,
+      c.loop-x.invariant.told,
+      c.loop-x.invariant.tails,
+      c.lighten-kept.auto.link,
+    )
+
+pub bounds-link-x-else-parent : goal.bounds-link-x-else-parent
+bounds-link-x-else-parent c =
+    rw length-set (omega (arith, c.loop-x-test.true, c.requires.divisible.few, c.loop-x.invariant.linked, c.loop-x.invariant.told, c.loop-x.invariant.tails, c.lighten-kept.auto.link))
+
+pub offset_bounds-carried-above : goal.offset_bounds-carried-above
+offset_bounds-carried-above c =
+    omega (
+      arith,
+      hand-inside c.requires.divisible c.loop-x.invariant c.loop-x-test.true c.lighten-kept.ensures c.lighten-kept.auto.link
+          c.lighten-kept.auto.next c.wide-above.ensures c.if-parent.false,
+      c.requires.divisible.few,
+      c.loop-x.invariant.linked,
+      c.loop-x.invariant.told,
+      c.loop-x.invariant.tails,
+      c.lighten-kept.auto.link,
+    )
+
+pub bounds-carried-above : goal.bounds-carried-above
+bounds-carried-above c =
+    rw length-set (omega (
+      arith,
+      hand-inside c.requires.divisible c.loop-x.invariant c.loop-x-test.true c.lighten-kept.ensures c.lighten-kept.auto.link
+          c.lighten-kept.auto.next c.wide-above.ensures c.if-parent.false,
+      c.requires.divisible.few,
+      c.loop-x.invariant.linked,
+      c.loop-x.invariant.told,
+      c.loop-x.invariant.tails,
+      c.lighten-kept.auto.link,
+    ))
+
+pub overflow_add-carried : goal.overflow_add-carried
+overflow_add-carried c =
+    omega (
+      arith,
+      hand-fits c.requires.divisible c.loop-x.invariant c.loop-x-test.true c.lighten-kept.ensures c.lighten-kept.auto.link
+          c.lighten-kept.auto.next c.wide-above.ensures c.if-parent.false,
+    )
+
+pub bounds-carried-above-else-parent : goal.bounds-carried-above-else-parent
+bounds-carried-above-else-parent c =
+    rw length-set (omega (
+      arith,
+      hand-inside c.requires.divisible c.loop-x.invariant c.loop-x-test.true c.lighten-kept.ensures c.lighten-kept.auto.link
+          c.lighten-kept.auto.next c.wide-above.ensures c.if-parent.false,
+      c.requires.divisible.few,
+      c.loop-x.invariant.linked,
+      c.loop-x.invariant.told,
+      c.loop-x.invariant.tails,
+      c.lighten-kept.auto.link,
+    ))
+
+pub loop-x-preserved : goal.loop-x-preserved
+loop-x-preserved c =
+    ⊎_elim
+    (λ v. step-root c.requires.divisible c.loop-x.invariant c.loop-x-test.true c.lighten-kept.ensures c.lighten-kept.auto.link c.lighten-kept.auto.next v.0.taken v.1 v.2 v.3)
+    (λ v. step-child c.requires.divisible c.loop-x.invariant c.loop-x-test.true c.lighten-kept.ensures c.lighten-kept.auto.link
+    c.lighten-kept.auto.next v.1.ensures v.0.left v.4 v.5 v.6)
+    c.if-parent.branch
+
+pub returns : goal.returns
+returns c = cutting-done c.requires.divisible c.loop-x.invariant c.loop-x-test.false

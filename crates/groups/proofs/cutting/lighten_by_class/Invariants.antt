@@ -1,0 +1,15 @@
+use native.Mathlib.Omega.{arith}
+use mathlib.Core.Path.{sym, ◌∙◌}
+use mathlib.Core.Logic.{inl, inr, ⊎_elim}
+use Prim.Native.Nat.{◌-◌}
+use lib.ListN.{length}
+use borrow.Author.Tests.{ltb-true, ltb-false}
+use Rattle.groups.proofs.Halving.{class-room}
+use Rattle.groups.proofs.Lightening.{Lighter, lighter-begin, lighter-small, lighter-skip, lighter-loaded, lighter-candidates, lighter-floor, lighter-trimmed, lightened}
+use Rattle.groups.proofs.cutting.lighten_by_class.Given as goal
+
+abbrev pub invariant-loop-class : goal.invariant-loop-class
+invariant-loop-class l = Lighter l.x l.weight l.limit (length l.heads - 1) l.carried l.initial.link l.link l.class l.left
+
+abbrev pub decreases-loop-class : goal.decreases-loop-class
+decreases-loop-class l = l.class

@@ -1,0 +1,37 @@
+use mathlib.Core.Path.{refl, sym, ap, subst, subst₂, ◌∙◌, ◌≡◌}
+use mathlib.Core.List.{List}
+use lib.ListN.{length-replicate, length}
+use Rattle.game.specs.Edge.{Edge}
+use Rattle.game.specs.Game.{absent}
+use Rattle.game.specs.Graph.{Proper}
+use mathlib.Core.Bool.{Bool}
+use Rattle.sorting.specs.Sorted.{begin}
+use Rattle.bucket.specs.Filed.{Filed}
+use Rattle.bucket.proofs.Reading.{begin-next, filed-part}
+use Rattle.growth.specs.Growth.{Upward, Raised, ReadUpTo, new_parents, Untouched}
+use Rattle.growth.specs.Moves.{Moves}
+use Rattle.growth.proofs.NewParents.{new-blank, untouched-none, untouched-on}
+use Rattle.growth.proofs.Moves.{moves-none, moves-on}
+use Rattle.growth.proofs.Climbs.{upward-blank}
+use Rattle.growth.proofs.Raise.{raise-start, raise-gather, raise-end}
+use Rattle.growth.proofs.ReadUpTo.{read-start, read-part, read-on}
+use native.Mathlib.Omega.{arith}
+use Prim.Native.Nat.{ℕ, ◌-◌, ◌<◌, ◌≤◌}
+use Rattle.growth.proofs.raising.raise.Given as goal
+
+-- the vertices below y are raised, for whatever graph is filed
+pub record Turn (keep : Bool) (ends was before jumps lower p jump : List ℕ) (moved at y : ℕ) : Type 0 where
+  pub same : length p ≡ length ends
+  pub upward : Upward (length ends) jump
+  pub within : y ≤ length ends
+  pub start : at ≡ begin ends y
+  pub reading : ReadUpTo keep was at lower
+  pub untouched : Untouched before jumps p jump
+  pub moves : Moves before jumps absent p jump moved
+  pub raised : (E : List Edge) → Proper (length ends) E → Filed (length ends) E ends was → Raised (length ends) E y (new_parents p jump) jump
+
+abbrev pub invariant-loop-y : goal.invariant-loop-y
+invariant-loop-y l = Turn l.keep l.ends l.initial.lower l.initial.parents l.initial.jump l.lower l.parents l.jump l.moved l.at l.y
+
+abbrev pub decreases-loop-y : goal.decreases-loop-y
+decreases-loop-y l = length l.ends - l.y

@@ -1,0 +1,13 @@
+use Prim.Native.Nat.{◌-◌, ◌≤◌}
+use lib.ListN.{length}
+use Rattle.decimal.proofs.Runs.{put-length}
+use Rattle.lines.specs.Lines.{rank_text}
+use Rattle.lines.proofs.Lined.{Lined, lined-none, line-room, lined-next, lined-all}
+use Rattle.lines.proofs.lines.put_lines.Given as goal
+
+abbrev pub invariant-loop-x : goal.invariant-loop-x
+invariant-loop-x l =
+    (l.x ≤ length l.order) × Lined (rank_text l.order l.parents l.weights l.reach l.top l.block l.block_count) l.initial.text l.text l.x l.end
+
+abbrev pub decreases-loop-x : goal.decreases-loop-x
+decreases-loop-x l = length l.order - l.x

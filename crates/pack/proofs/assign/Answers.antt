@@ -1,0 +1,11 @@
+use mathlib.Core.Path.{◌∙◌}
+use Rattle.pack.proofs.Blocks.{packable-cleared, spread-assigned}
+use Rattle.pack.proofs.assign.Goals as goal
+
+pub pack-requires : goal.pack-requires
+pack-requires c =
+    packable-cleared c.requires.packable c.fill.ensures
+
+pub returns : goal.returns
+returns c =
+    spread-assigned c.requires.topped c.pack.ensures (c.spread.auto.block ∙ c.pack.auto.block ∙ c.requires.packable.sized) c.spread.ensures

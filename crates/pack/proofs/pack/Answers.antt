@@ -1,0 +1,58 @@
+use native.Mathlib.Omega.{arith}
+use mathlib.Core.Path.{◌≡◌, refl, sym, ap, ◌∙◌}
+use mathlib.Core.Logic.{⊎_elim}
+use Prim.Native.Nat.{◌-◌}
+use lib.ListN.{length}
+use Rattle.pack.specs.Lightest.{lightest}
+use Rattle.pack.specs.TournamentSteps.{Tournament}
+use Rattle.pack.proofs.Winners.{lightest-zeros, tournament-same, outdated}
+use Rattle.pack.proofs.Blocks.{Packs, packs-none, packs-length, packs-few, packs-all, packs-pass, packs-inside, packs-fits, packs-more}
+use Rattle.pack.proofs.pack.Goals as goal
+
+pub loop-x-init : goal.loop-x-init
+loop-x-init c =
+    (packs-none c.requires.packable c.requires.loads_value, tournament-same c.requires.loads_value refl c.start.ensures, lightest-zeros c.requires.loads_value c.requires.packable.some)
+
+pub overflow_cast-block : goal.overflow_cast-block
+overflow_cast-block c =
+    omega (arith, packs-inside c.requires.packable c.loop-x.invariant.0 c.loop-x-test.true (sym c.wide.ensures ∙ c.if-wide-x.true) c.loop-x.invariant.2, packs-few c.requires.packable c.loop-x.invariant.0)
+
+pub offset_bounds-loads-best : goal.offset_bounds-loads-best
+offset_bounds-loads-best c =
+    omega (arith, packs-inside c.requires.packable c.loop-x.invariant.0 c.loop-x-test.true (sym c.wide.ensures ∙ c.if-wide-x.true) c.loop-x.invariant.2, packs-few c.requires.packable c.loop-x.invariant.0)
+
+pub bounds-loads-best : goal.bounds-loads-best
+bounds-loads-best c =
+    packs-inside c.requires.packable c.loop-x.invariant.0 c.loop-x-test.true (sym c.wide.ensures ∙ c.if-wide-x.true) c.loop-x.invariant.2
+
+pub overflow_add-loads : goal.overflow_add-loads
+overflow_add-loads c =
+    omega (arith, packs-fits c.requires.packable c.loop-x.invariant.0 c.loop-x-test.true (sym c.wide.ensures ∙ c.if-wide-x.true) c.loop-x.invariant.2)
+
+pub bounds-loads-best-then-wide-x : goal.bounds-loads-best-then-wide-x
+bounds-loads-best-then-wide-x c =
+    packs-inside c.requires.packable c.loop-x.invariant.0 c.loop-x-test.true (sym c.wide.ensures ∙ c.if-wide-x.true) c.loop-x.invariant.2
+
+pub replay-best-requires : goal.replay-best-requires
+replay-best-requires c =
+    outdated c.loop-x.invariant.1 (packs-few c.requires.packable c.loop-x.invariant.0) _ (packs-inside c.requires.packable c.loop-x.invariant.0 c.loop-x-test.true (sym c.wide.ensures ∙ c.if-wide-x.true) c.loop-x.invariant.2)
+
+pub loop-x-preserved : goal.loop-x-preserved
+loop-x-preserved c =
+    ⊎_elim
+    (λ w. (
+      packs-more c.requires.packable c.loop-x.invariant.0 c.loop-x-test.true (sym c.wide.ensures ∙ w.0.taken) c.loop-x.invariant.2 w.7 w.8,
+      tournament-same
+          w.8 w.9 w.5.ensures.0,
+      w.10 ∙ w.5.ensures.1 ∙ ap lightest (sym w.8),
+    ))
+    (λ w. (
+      packs-pass c.requires.packable c.loop-x.invariant.0 c.loop-x-test.true (λ e. w.0.left (c.wide.ensures ∙ e)) w.1 w.2,
+      tournament-same w.2 w.3
+          c.loop-x.invariant.1,
+      w.4 ∙ c.loop-x.invariant.2 ∙ ap lightest (sym w.2),
+    ))
+    c.if-wide-x.branch
+
+pub returns : goal.returns
+returns c = packs-all c.requires.packable c.loop-x.invariant.0 c.loop-x-test.false

@@ -1,0 +1,16 @@
+use native.Mathlib.Omega.{arith}
+use mathlib.Core.Path.{◌≡◌, refl, sym, ap, ◌∙◌}
+use mathlib.Core.Logic.{⊎_elim}
+use Prim.Native.Nat.{◌-◌}
+use lib.ListN.{length}
+use Rattle.pack.specs.Lightest.{lightest}
+use Rattle.pack.specs.TournamentSteps.{Tournament}
+use Rattle.pack.proofs.Winners.{lightest-zeros, tournament-same, outdated}
+use Rattle.pack.proofs.Blocks.{Packs, packs-none, packs-length, packs-few, packs-all, packs-pass, packs-inside, packs-fits, packs-more}
+use Rattle.pack.proofs.pack.Given as goal
+
+abbrev pub invariant-loop-x : goal.invariant-loop-x
+invariant-loop-x l = Packs l.top l.carried (length l.initial.loads) l.x l.block l.loads × Tournament l.loads l.nodes × (l.best ≡ lightest l.loads)
+
+abbrev pub decreases-loop-x : goal.decreases-loop-x
+decreases-loop-x l = length l.top - l.x

@@ -1,0 +1,10 @@
+use native.Mathlib.Omega.{arith}
+use lib.ListN.{replicate}
+use Rattle.pack.proofs.Winners.{Playing, start-high, start-begin, start-node, start-leaf, play-done}
+use Rattle.pack.proofs.tournament.start.Given as goal
+
+abbrev pub invariant-loop-i : goal.invariant-loop-i
+invariant-loop-i l = Playing (replicate l.blocks 0) l.nodes l.i l.i
+
+abbrev pub decreases-loop-i : goal.decreases-loop-i
+decreases-loop-i l = l.i

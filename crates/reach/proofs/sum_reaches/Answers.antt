@@ -1,0 +1,37 @@
+use Prim.Native.Nat.{◌-◌, ◌≤◌}
+use lib.ListN.{length}
+use native.Mathlib.Nat.{le_antisymm}
+use Rattle.reach_slots.proofs.Summing.{Summed, summed-first, turn-less, turn-fits, turn-root, turn-child, turn_last}
+use Rattle.reach.proofs.sum_reaches.Goals as goal
+
+pub loop-x-init : goal.loop-x-init
+loop-x-init c = (search rules, summed-first _ c.requires.summable.entries)
+
+pub overflow_sub-sum : goal.overflow_sub-sum
+overflow_sub-sum c =
+    let (f, b) = c.requires.by_index in
+    (turn-less b c.loop-x-test.true c.loop-x.invariant.1).0
+
+pub add_at-requires : goal.add_at-requires
+add_at-requires c =
+    let (f, b) = c.requires.by_index in
+    let h = c.loop-x-test.true in
+    let d = c.loop-x.invariant.1 in
+    turn-fits _ c.requires.summable h d (turn-less b h d).1 c.if-parent.true
+
+pub loop-x-preserved-then-parent : goal.loop-x-preserved-then-parent
+loop-x-preserved-then-parent c =
+    let (f, b) = c.requires.by_index in
+    let h = c.loop-x-test.true in
+    let d = c.loop-x.invariant.1 in
+    (search rules, turn-child _ c.requires.summable h d (turn-less b h d).1 c.if-parent.true c.add_at.ensures)
+
+pub loop-x-preserved : goal.loop-x-preserved
+loop-x-preserved c =
+    let (f, b) = c.requires.by_index in
+    let h = c.loop-x-test.true in
+    let d = c.loop-x.invariant.1 in
+    (search rules, turn-root _ c.requires.summable h d (turn-less b h d).1 c.if-parent.false)
+
+pub returns : goal.returns
+returns c = λ f b. turn_last (le_antisymm c.loop-x.invariant.0 c.loop-x-test.false) c.loop-x.invariant.1 b

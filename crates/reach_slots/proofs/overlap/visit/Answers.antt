@@ -1,0 +1,112 @@
+use native.Mathlib.Omega.{arith}
+use mathlib.Core.Path.{◌≡◌, refl, sym, ap, ◌∙◌}
+use mathlib.Core.Logic.{⊎_elim}
+use Prim.Native.Nat.{ℕ, ◌-◌, ◌≤◌}
+use lib.ListN.{length, length-set}
+use mathlib.Core.List.{List}
+use Rattle.game.specs.Edge.{Edge}
+use Rattle.reach_slots.specs.Visit.{Slotted, Empty}
+use Rattle.reach_slots.proofs.Turns.{Slot, slot-mark, slot-first, slot-other}
+use Rattle.reach_slots.proofs.Visiting.{Counting, counting-first, slot-inside, path-under, overlap-fits, counting-step, visited-last}
+use Rattle.reach_slots.proofs.overlap.visit.Goals as goal
+
+-- the edge in slot k, whichever way its ends were read
+slot : (c : tie.Joined1 invariant-loop decreases-loop) {p filed stops : List ℕ} {es : List Edge}
+    → Counting p c.before.before.before.before.before.before.before.before.before.before.before.args.counts.now es filed stops
+    c.before.before.before.before.before.before.before.before.before.before.before.args.ends.now
+    c.before.before.before.before.before.before.before.before.before.before.before.args.first.now
+    c.before.before.before.before.before.before.before.before.before.before.before.args.slots.now c.before.before.before.loop.ancestor
+    c.before.before.before.loop.previous c.before.before.before.loop.overlaps c.before.before.before.loop.k c.before.before.before.loop.u
+    c.before.before.before.loop.stop
+    → Slot c.before.before.before.before.before.before.before.before.before.before.before.args.counts.now stops filed c.before.before.before.loop.k c.if1.u c.if1.y c.if1.stop
+slot c d =
+    let l = d.slotted.layout in
+    let m = d.slotted.marked in
+    let h = c.before.before.loop-test.true in
+    ⊎_elim
+    (λ a. slot-first l h m d.turn a.0.taken c.before.read_at.ensures a.1.ensures a.2.ensures a.3 a.4 a.5)
+    (λ a. slot-other l h m d.turn a.0.left c.before.read_at.ensures a.1 a.2 a.3)
+    c.if1.branch
+
+pub loop-k-init : goal.loop-k-init
+loop-k-init c = (search rules, refl, refl, refl, λ p es filed stops g e. counting-first g e)
+
+pub read_at-requires : goal.read_at-requires
+read_at-requires c =
+    let (p, es, filed, stops, g, e) = c.requires in
+    let d = c.loop-k.invariant.4 p es filed stops g e in
+    let h = (slot-mark g.layout c.loop-k-test.true g.marked d.turn c.if-k-stop.true c.read_at-y.ensures).0 in
+    rw (g.entries.0, ← g.layout.entries) h
+
+pub overflow_add-stop : goal.overflow_add-stop
+overflow_add-stop c =
+    let (p, es, filed, stops, g, e) = c.requires in
+    let d = c.loop-k.invariant.4 p es filed stops g e in
+    let h = (slot-mark g.layout c.loop-k-test.true g.marked d.turn c.if-k-stop.true c.read_at-y.ensures).1 in
+    omega (arith, g.few, c.read_at.ensures)
+
+pub read_at-y-requires-then-k-stop : goal.read_at-y-requires-then-k-stop
+read_at-y-requires-then-k-stop c =
+    let (p, es, filed, stops, g, e) = c.requires in
+    let d = c.loop-k.invariant.4 p es filed stops g e in
+    let h = (slot-mark g.layout c.loop-k-test.true g.marked d.turn c.if-k-stop.true c.read_at-y.ensures).0 in
+    rw (g.entries.1, ← g.layout.entries) h
+
+pub read_at-v-requires : goal.read_at-v-requires
+read_at-v-requires c =
+    let (p, es, filed, stops, g, e) = c.requires in
+    let d = c.loop-k.invariant.4 p es filed stops g e in
+    slot-inside d (slot c d)
+
+pub path_end-r-requires : goal.path_end-r-requires
+path_end-r-requires c =
+    let (p, es, filed, stops, g, e) = c.requires in
+    let d = c.loop-k.invariant.4 p es filed stops g e in
+    (p, d.jumps, path-under d (slot c d) c.read_at-v.ensures)
+
+pub add_at-requires : goal.add_at-requires
+add_at-requires c =
+    let (p, es, filed, stops, g, e) = c.requires in
+    let d = c.loop-k.invariant.4 p es filed stops g e in
+    let s = slot c d in
+    let rv = c.read_at-v.ensures in
+    overlap-fits d s rv (c.path_end-r.ensures p d.jumps (path-under d s rv)).1 c.loop-k-test.true
+
+pub write_at-requires : goal.write_at-requires
+write_at-requires c =
+    let (p, es, filed, stops, g, e) = c.requires in
+    let d = c.loop-k.invariant.4 p es filed stops g e in
+    slot-inside d (slot c d)
+
+pub overflow_add-k : goal.overflow_add-k
+overflow_add-k c =
+    let (
+      p,
+      es,
+      filed,
+      stops,
+      g,
+      e,
+    ) = c.requires in
+    omega (arith, g.few, c.loop-k-test.true)
+
+pub loop-k-preserved : goal.loop-k-preserved
+loop-k-preserved c =
+    let (k, a, b, o, inv) = c.loop-k.invariant in
+    let rv = c.read_at-v.ensures in
+    let (p, es, filed, stops, g, e) = c.requires in
+    let d = inv p es filed stops g e in
+    let js = (c.path_end-r.ensures p d.jumps (path-under d (slot c d) rv)).0 in (
+      search rules,
+      js.entries ∙ sym d.jumps.entries ∙ a,
+      ap length c.write_at.ensures ∙ simp length-set b,
+      ap length c.add_at.ensures ∙ simp length-set o,
+      λ p es filed stops g e.
+          let d = inv p es filed stops g e in
+          let s = slot c d in
+          let (js, f) = c.path_end-r.ensures p d.jumps (path-under d s rv) in
+          counting-step d s rv f js c.add_at.ensures c.write_at.ensures,
+    )
+
+pub returns : goal.returns
+returns c = λ p es filed stops g e. visited-last g c.loop-k-test.false (c.loop-k.invariant.4 p es filed stops g e).visited

@@ -1,0 +1,20 @@
+use native.Mathlib.Omega.{arith}
+use mathlib.Core.Path.{◌≡◌, refl, sym, ap, ◌∙◌}
+use mathlib.Core.Logic.{⊎_elim}
+use Prim.Native.Nat.{ℕ, ◌-◌, ◌≤◌}
+use lib.ListN.{length, length-set}
+use mathlib.Core.List.{List}
+use Rattle.game.specs.Edge.{Edge}
+use Rattle.reach_slots.specs.Visit.{Slotted, Empty}
+use Rattle.reach_slots.proofs.Turns.{Slot, slot-mark, slot-first, slot-other}
+use Rattle.reach_slots.proofs.Visiting.{Counting, counting-first, slot-inside, path-under, overlap-fits, counting-step, visited-last}
+use Rattle.reach_slots.proofs.overlap.visit.Given as goal
+
+abbrev pub invariant-loop-k : goal.invariant-loop-k
+invariant-loop-k l =
+    (l.k ≤ length l.slots) × (length l.ancestor ≡ length l.initial.ancestor) × (length l.previous ≡ length l.initial.previous) × (length l.overlaps ≡ length l.initial.overlaps)
+    × ((p : List ℕ) (es : List Edge) (filed stops : List ℕ) → Slotted p l.counts es filed stops l.ends l.first l.slots → Empty p l.ends l.initial.ancestor l.initial.previous l.initial.overlaps
+    → Counting p l.counts es filed stops l.ends l.first l.slots l.ancestor l.previous l.overlaps l.k l.u l.stop)
+
+abbrev pub decreases-loop-k : goal.decreases-loop-k
+decreases-loop-k l = length l.slots - l.k

@@ -1,0 +1,12 @@
+use native.Mathlib.Omega.{arith}
+use mathlib.Core.Path.{sym, ◌∙◌}
+use Prim.Native.Nat.{◌*◌, ◌-◌, ◌≤◌}
+use borrow.Author.Tests.{not-true, not-false}
+use Rattle.read.proofs.Check.{Checked, checked-none, checked-turn, checked-stop, checked-above, checked-within}
+use Rattle.read.proofs.records_refusal.Given as goal
+
+abbrev pub invariant-loop-rank : goal.invariant-loop-rank
+invariant-loop-rank l = (l.rank ≤ l.n) × (l.total ≤ 4294967295 * l.rank) × Checked l.bytes l.n l.rank l.total
+
+abbrev pub decreases-loop-rank : goal.decreases-loop-rank
+decreases-loop-rank l = l.n - l.rank

@@ -1,0 +1,17 @@
+use mathlib.Core.Path.{◌≡◌, sym, ◌∙◌}
+use mathlib.Core.List.{◌++◌}
+use Prim.Native.Nat.{◌*◌, ◌-◌, ◌≤◌}
+use lib.ListN.{length, take, drop}
+use Rattle.game.specs.Net.{net as lent}
+use Rattle.records.specs.LinkFile.{link_file}
+use Rattle.save.proofs.Records.{save-turn, save-end}
+use Rattle.save.proofs.put_records.Given as goal
+
+abbrev pub invariant-loop-rank : goal.invariant-loop-rank
+invariant-loop-rank l =
+    (l.rank ≤ length l.parents)
+    × (length l.bytes ≡ 8 * length l.parents)
+    × (take (8 * l.rank) l.bytes ++ link_file (lent (drop l.rank l.parents) (drop l.rank l.weights)) ≡ link_file (lent l.parents l.weights))
+
+abbrev pub decreases-loop-rank : goal.decreases-loop-rank
+decreases-loop-rank l = length l.parents - l.rank

@@ -1,0 +1,14 @@
+use mathlib.Core.Path.{refl, sym}
+use Prim.Native.Nat.{◌-◌}
+use lib.ListN.{length}
+use Rattle.table.proofs.Copying.{Copied, copied-first, copied-step, copied-last}
+use Rattle.table.proofs.copy.Goals as goal
+
+pub loop-i-init : goal.loop-i-init
+loop-i-init c = copied-first (sym c.requires)
+
+pub loop-i-preserved : goal.loop-i-preserved
+loop-i-preserved c = copied-step c.loop-i.invariant c.loop-i-test.true refl
+
+pub returns : goal.returns
+returns c = copied-last c.loop-i.invariant c.loop-i-test.false

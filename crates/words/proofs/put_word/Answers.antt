@@ -1,0 +1,16 @@
+use native.Mathlib.Omega.{arith}
+use lib.ListN.{length-set}
+use Rattle.words.proofs.Stores.{stores-four}
+use Rattle.words.proofs.put_word.Goals as goal
+
+pub bounds-bytes-at-2 : goal.bounds-bytes-at-2
+bounds-bytes-at-2 c = simp length-set (omega arith)
+
+pub bounds-bytes-at-3 : goal.bounds-bytes-at-3
+bounds-bytes-at-3 c = simp length-set (omega arith)
+
+pub bounds-bytes-at-4 : goal.bounds-bytes-at-4
+bounds-bytes-at-4 c = simp length-set (omega arith)
+
+pub returns : goal.returns
+returns c = stores-four c.args.bytes.now c.args.t3 c.args.at (omega arith)

@@ -1,0 +1,6 @@
+use Rattle.words.specs.Word.{word_at}
+use Rattle.words.proofs.word_at.Goals as goal
+
+pub returns : goal.returns
+unfolding word_at
+returns c = search rules

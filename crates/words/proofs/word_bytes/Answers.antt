@@ -1,0 +1,6 @@
+use Rattle.words.specs.Word.{word_bytes}
+use Rattle.words.proofs.word_bytes.Goals as goal
+
+pub returns : goal.returns
+unfolding word_bytes
+returns c = search rules
