@@ -184,7 +184,7 @@ module _ {p : List ℕ} (s : Sound p) (u : length p ≤ absent) (w : List ℕ) (
   pub carried-under : carried p w B ≡ carried_under p w (cut p w B)
   unfolding carried carried_under
   carried-under =
-      ext_get_or 0 (carried p w B) (carried_under p w (cut p w B)) (carried-length _ w (length p) ∙ sym (carried-length _ w (length p)))
+      ext_get_or 0 (carried p w B) (carried_under p w (cut p w B)) (carried-length (kept p w B) w (length p) ∙ sym (carried-length (λ (c : ℕ → ℕ) (x : ℕ). uncut_under p (cut p w B) x) w (length p)))
       (λ x l. carrying-same s u greedy-carrying (under-carrying s u w (cut p w B)) x (omega (arith, carried-length (kept p w B) w (length p))))
 
   -- no rank carries more than the limit, if no weight is above it

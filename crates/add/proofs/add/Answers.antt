@@ -53,22 +53,16 @@ returns-then-code-ne0 c =
 
 pub extend-lowest-requires : goal.extend-lowest-requires
 extend-lowest-requires c =
-    let r : tie.After-read-list = c in
-    let at-if1 = r.before.before.before.before.before.before.before.before.before in
-    let at-read-tables = at-if1.before.before in
-    let o = at-read-tables.read-tables.ensures.passed at-if1.if1.false in
-    let z = sym (list-decides o r.read-list.ensures) ∙ c.if-code-ne0.false in
+    let o = c.read_tables-found.ensures.passed c.if-found-ne0.false in
+    let z = sym (list-decides o c.read_list-code.ensures) ∙ c.if-code-ne0.false in
     let a = addable _ _ z in
-    (add-extendable a r.read-list.auto.1.0 r.read-list.auto.1.1.0, add-weighable a, list_counted o r.read-list.ensures c.if-code-ne0.false)
+    (add-extendable a c.read_list-code.auto.ends c.read_list-code.auto.jump, add-weighable a, list_counted o c.read_list-code.ensures c.if-code-ne0.false)
 
 pub returns : goal.returns
 unfolding add_outcome
 returns c =
-    let r : tie.After-read-list = c in
-    let at-if1 = r.before.before.before.before.before.before.before.before.before in
-    let at-read-tables = at-if1.before.before in
-    let o = at-read-tables.read-tables.ensures.passed at-if1.if1.false in
-    let z = sym (list-decides o r.read-list.ensures) ∙ c.if-code-ne0.false in
+    let o = c.read_tables-found.ensures.passed c.if-found-ne0.false in
+    let z = sym (list-decides o c.read_list-code.ensures) ∙ c.if-code-ne0.false in
     let a = addable _ _ z in
     let (x, t, d) = c.extend-lowest.ensures in
-    rw c.accepted-2.ensures (ends-accepted _ _ _ _ (add-moved a x d refl) z (add-ends a r.read-list.auto.1.0 r.read-list.auto.1.1.0 (x, t)))
+    rw c.accepted-2.ensures (ends-accepted _ _ _ _ (add-moved a x d refl) z (add-ends a c.read_list-code.auto.ends c.read_list-code.auto.jump (x, t)))

@@ -1,3 +1,4 @@
+use Rattle.std.proofs.Common.{rules}
 use Rattle.ancestry.specs.Answer.{lowest_rank}
 use Rattle.ancestry.proofs.lowest_rank.Goals as goal
 

@@ -2,7 +2,7 @@ use Rattle.cells.proofs.Handed.{separator-accepted, separator-refused}
 use Rattle.cells.proofs.hand_separator.Goals as goal
 
 pub returns-in-Accepted : goal.returns-in-Accepted
-returns-in-Accepted c = separator-accepted _ c.answer-1.given.1 c.lowest_rank.ensures
+returns-in-Accepted c = separator-accepted _ c.in-Accepted.is c.lowest_rank.ensures
 
 pub returns-in-Refused : goal.returns-in-Refused
-returns-in-Refused c = separator-refused _ c.answer-in-Refused-1.given.1
+returns-in-Refused c = separator-refused _ c.in-Refused.is

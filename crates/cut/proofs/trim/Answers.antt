@@ -114,31 +114,31 @@ cut-preserved-then-start-first c =
 
 pub offset_bounds-link-at-in-cut : goal.offset_bounds-link-at-in-cut
 offset_bounds-link-at-in-cut c =
-    omega (arith, cut_inside c.requires.loaded c.requires.candidates c.cut.invariant (found c) c.if-weight-uncut.false c.wide-at-in-cut.ensures, c.requires.loaded.few, c.requires.loaded.tails, c.requires.loaded.told, c.cut.invariant.size)
+    omega (arith, cut_inside c.requires.loaded c.requires.candidates c.cut.invariant (found (goal.at.offset_bounds-link-at-in-cut c).After-wide-at-in-cut) c.if-weight-uncut.false c.wide-at-in-cut.ensures, c.requires.loaded.few, c.requires.loaded.tails, c.requires.loaded.told, c.cut.invariant.size)
 
 pub bounds-link-at-in-cut : goal.bounds-link-at-in-cut
 bounds-link-at-in-cut c =
-    cut_inside c.requires.loaded c.requires.candidates c.cut.invariant (found c) c.if-weight-uncut.false c.wide-at-in-cut.ensures
+    cut_inside c.requires.loaded c.requires.candidates c.cut.invariant (found (goal.at.bounds-link-at-in-cut c).After-wide-at-in-cut) c.if-weight-uncut.false c.wide-at-in-cut.ensures
 
 pub overflow_sub-uncut : goal.overflow_sub-uncut
 overflow_sub-uncut c =
-    cut-least c.requires.loaded c.requires.candidates c.cut.invariant (found c) c.if-weight-uncut.false c.wide-at-in-cut.ensures
+    cut-least c.requires.loaded c.requires.candidates c.cut.invariant (found (goal.at.overflow_sub-uncut c).After-wide-at-in-cut) c.if-weight-uncut.false c.wide-at-in-cut.ensures
 
 pub offset_bounds-next-at-in-cut : goal.offset_bounds-next-at-in-cut
 offset_bounds-next-at-in-cut c =
-    omega (arith, cut_inside c.requires.loaded c.requires.candidates c.cut.invariant (found c) c.if-weight-uncut.false c.wide-at-in-cut.ensures, c.requires.loaded.few, c.requires.loaded.tails, c.requires.loaded.told, c.cut.invariant.size)
+    omega (arith, cut_inside c.requires.loaded c.requires.candidates c.cut.invariant (found (goal.at.offset_bounds-next-at-in-cut c).After-wide-at-in-cut) c.if-weight-uncut.false c.wide-at-in-cut.ensures, c.requires.loaded.few, c.requires.loaded.tails, c.requires.loaded.told, c.cut.invariant.size)
 
 pub bounds-next-at-in-cut : goal.bounds-next-at-in-cut
 bounds-next-at-in-cut c =
-    omega (arith, cut_inside c.requires.loaded c.requires.candidates c.cut.invariant (found (at-wide2)) c.if-weight-uncut.false c.wide-at-in-cut.ensures, c.requires.loaded.few, c.requires.loaded.tails, c.requires.loaded.told, c.cut.invariant.size)
+    omega (arith, cut_inside c.requires.loaded c.requires.candidates c.cut.invariant (found ((goal.at.bounds-next-at-in-cut c).After-wide-at-in-cut)) c.if-weight-uncut.false c.wide-at-in-cut.ensures, c.requires.loaded.few, c.requires.loaded.tails, c.requires.loaded.told, c.cut.invariant.size)
 
 pub cut-smaller : goal.cut-smaller
 cut-smaller c =
-    turn-less c.requires.loaded c.requires.candidates c.cut.invariant (found (at-wide2)) c.if-weight-uncut.false c.wide-at-in-cut.ensures
+    turn-less c.requires.loaded c.requires.candidates c.cut.invariant (found ((goal.at.cut-smaller c).After-wide-at-in-cut)) c.if-weight-uncut.false c.wide-at-in-cut.ensures
 
 pub cut-preserved : goal.cut-preserved
 cut-preserved c =
-    turn-cut c.requires.loaded c.requires.candidates c.cut.invariant (found (at-wide2)) c.if-weight-uncut.false c.wide-at-in-cut.ensures
+    turn-cut c.requires.loaded c.requires.candidates c.cut.invariant (found ((goal.at.cut-preserved c).After-wide-at-in-cut)) c.if-weight-uncut.false c.wide-at-in-cut.ensures
 
 pub returns-then-weight-uncut : goal.returns-then-weight-uncut
 returns-then-weight-uncut c =
@@ -146,4 +146,4 @@ returns-then-weight-uncut c =
 
 pub returns-then-found-floor : goal.returns-then-found-floor
 returns-then-found-floor c =
-    turn-none c.requires.loaded c.requires.candidates c.cut.invariant c.loop-child.invariant (over c) (seen c) c.if-found-floor.true
+    turn-none c.requires.loaded c.requires.candidates c.cut.invariant c.loop-child.invariant (over (goal.at.returns-then-found-floor c).Joined-found-most-2) (seen (goal.at.returns-then-found-floor c).Joined-found-most-2) c.if-found-floor.true

@@ -8,25 +8,21 @@ use borrow.Author.Tests.{ltb-false}
 use Rattle.cut.proofs.trim.Given as goal
 
 -- how the scan ended: at the end of the list, or at one that carries as much as any
-pub over : (c : tie.Joined3 invariant-loop decreases-loop invariant-cut decreases-cut) → (c.before.before.loop.child ≡ absent) ⊎ (c.before.before.before.before.cut.most ≤ c.before.before.loop.found)
-over c = ⊎_elim (λ w. inr (ltb-false _ _ w.1.left)) (λ w. inl w.left) c.before.loop-test.branch
+pub over : (c : Joined-found-most-2) → (c.loop-child.child ≡ absent) ⊎ (c.cut.most ≤ c.loop-child.found)
+over c = ⊎_elim (λ w. inr (ltb-false _ _ w.1.left)) (λ w. inl w.left) c.loop-child-test.branch
 
-pub seen : (c : tie.Joined3 invariant-loop decreases-loop invariant-cut decreases-cut)
-    → (c.before.before.before.before.cut.most ≤ c.before.before.loop.found) ⊎ ((c.before.before.loop.found < c.before.before.before.before.cut.most) ×
-    (c.before.before.before.before.cut.start ≡ c.before.before.before.before.before.before.before.before.args.first))
-seen c = ⊎_elim (λ w. inr (w.0.taken, w.1.left)) (λ w. inl w.left) c.if3.branch
+pub seen : (c : Joined-found-most-2)
+    → (c.cut.most ≤ c.loop-child.found) ⊎ ((c.loop-child.found < c.cut.most) ×
+    (c.cut.start ≡ c.args.first))
+seen c = ⊎_elim (λ w. inr (w.0.taken, w.1.left)) (λ w. inl w.left) c.if-found-most-2.branch
 
 -- what it has found
-pub found : (c : tie.After-wide2 invariant-loop decreases-loop invariant-cut decreases-cut)
-    → Found c.before.before.before.before.before.before.before.before.before.before.args.carried.now c.before.before.before.before.before.before.cut.link
-    c.before.before.before.before.before.before.before.before.before.before.args.x c.before.before.before.before.before.before.before.before.before.before.args.floor
-    c.before.before.before.before.loop.heaviest c.before.before.before.before.loop.found
+pub found : (c : After-wide-at-in-cut)
+    → Found c.args.carried.now c.cut.link
+    c.args.x c.args.floor
+    c.loop-child.heaviest c.loop-child.found
 found c =
-    let at-if5 = c.before in
-    let at-loop = at-if5.before.before.before in
-    let at_cut = at-loop.before.before in
-    let at_pre = at_cut.before.before.before.before in
-    turn-found at_pre.requires.0 at_pre.requires.1 at_cut.cut.invariant at-loop.loop.invariant (over at-if5.before) (seen at-if5.before) at-if5.if5.false
+    turn-found c.requires.loaded c.requires.candidates c.cut.invariant c.loop-child.invariant (over at-if5.before) (seen at-if5.before) c.if-found-floor.false
 
 abbrev pub invariant-loop-child : goal.invariant-loop-child
 invariant-loop-child l =

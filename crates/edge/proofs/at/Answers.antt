@@ -1,3 +1,4 @@
+use Rattle.std.proofs.Common.{rules}
 use native.Mathlib.Omega.{arith}
 use Rattle.game.proofs.Edges.{edges-length}
 use Rattle.edge.proofs.Reading.{edges_at}

@@ -1,3 +1,4 @@
+use Rattle.std.proofs.Common.{rules}
 use mathlib.Core.Path.{sym, ◌∙◌}
 use native.Mathlib.Omega.{arith}
 use borrow.Author.Tests.{eq-eqb, ne_eqb}
@@ -40,13 +41,11 @@ returns-then-not_whole-2 c =
 
 pub overflow_add-edges : goal.overflow_add-edges
 overflow_add-edges c =
-    let s : tie.Start = c in
-    search (rules, c.count-2.ensures, c.count.ensures, edges-length s.args.old.now, edges-length s.args.added.now)
+    search (rules, c.count-2.ensures, c.count.ensures, edges-length c.args.old.now, edges-length c.args.added.now)
 
 pub overflow_mul-edges : goal.overflow_mul-edges
 overflow_mul-edges c =
-    let s : tie.Start = c in
-    search (rules, c.count-2.ensures, c.count.ensures, edges-length s.args.old.now, edges-length s.args.added.now)
+    search (rules, c.count-2.ensures, c.count.ensures, edges-length c.args.old.now, edges-length c.args.added.now)
 
 pub returns-then-neighbours-edges : goal.returns-then-neighbours-edges
 unfolding index_refusal vertices

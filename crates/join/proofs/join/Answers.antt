@@ -16,15 +16,20 @@ returns-then-code-ne0 c = ends-refused _ _ _ _ c.join_refusal-code.ensures (λ z
 
 pub add_all-requires : goal.add_all-requires
 add_all-requires c =
-    let s : tie.Start = c in
     let a = joinable _ _ (sym c.join_refusal-code.ensures ∙ c.if-code-ne0.false) in
-    (a.net.long ∙ sym (a.second.long ∙ a.same), λ v. omega (arith, sum-entry s.args.weights.now v, sum-entry s.args.other-weights.now v, a.light))
+    (a.net.long ∙ sym (a.second.long ∙ a.same), λ v. omega (arith, sum-entry c.args.weights.now v, sum-entry c.args.other_weights.now v, a.light))
 
 pub file_links-requires : goal.file_links-requires
 file_links-requires c =
     let a = joinable _ _ (sym c.join_refusal-code.ensures ∙ c.if-code-ne0.false) in
-    (a.work.ends, (a.same, (a.net.few, (true-sound a.net.sound, (true-sound a.second.sound, a.work.lower)))))
-
+    record {
+  ends_len = a.work.ends;
+  second_len = a.same;
+  first_len_bound = a.net.few;
+  first_value = true-sound a.net.sound;
+  second_value = true-sound a.second.sound;
+  lower_len = a.work.lower;
+}
 pub grow-lowest-requires : goal.grow-lowest-requires
 grow-lowest-requires c =
     let a = joinable _ _ (sym c.join_refusal-code.ensures ∙ c.if-code-ne0.false) in
@@ -35,7 +40,6 @@ unfolding verdict join_outcome
 returns c =
     let z = sym c.join_refusal-code.ensures ∙ c.if-code-ne0.false in
     let a = joinable _ _ z in
-    let f : tie.After-file-links = c in
     let (g, d) = c.grow-lowest.ensures in
-    rw c.accepted.ensures (ends-accepted _ _ _ _ (join-moved a f.file-links.ensures g d refl) z
-    (join-ends a f.file-links.ensures g c.add_all.ensures f.file-links.auto.1.1.0 f.file-links.auto.1.1.1.0))
+    rw c.accepted.ensures (ends-accepted _ _ _ _ (join-moved a c.file_links.ensures g d refl) z
+    (join-ends a c.file_links.ensures g c.add_all.ensures c.file_links.auto.ends c.file_links.auto.lower))

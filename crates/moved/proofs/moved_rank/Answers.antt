@@ -1,3 +1,4 @@
+use Rattle.std.proofs.Common.{rules}
 use Rattle.moved.specs.Moved.{moved_rank}
 use Rattle.moved.proofs.moved_rank.Goals as goal
 

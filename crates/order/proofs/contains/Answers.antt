@@ -1,3 +1,4 @@
+use Rattle.std.proofs.Common.{rules}
 use Rattle.order.specs.VertexSet.{bit_at}
 use Rattle.order.proofs.contains.Goals as goal
 

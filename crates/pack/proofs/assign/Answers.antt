@@ -4,7 +4,8 @@ use Rattle.pack.proofs.assign.Goals as goal
 
 pub pack-requires : goal.pack-requires
 pack-requires c =
-    packable-cleared c.requires.packable c.fill.ensures
+    let both = packable-cleared c.requires.packable c.fill.ensures in
+    record { packable = both.0; loads_value = both.1 }
 
 pub returns : goal.returns
 returns c =

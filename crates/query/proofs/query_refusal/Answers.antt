@@ -23,7 +23,7 @@ returns-then-not-starts_rise c =
     sym
     (pass _ _ (ne_eqb _ _ c.if-starts-eq0.false)
     ∙ pass _ _ (sym c.bad_count.ensures ∙ c.if-bad_count.false)
-    ∙ stop _ _ (ap not (sym c.starts_rise.ensures) ∙ c.if-not-starts_rise.true-raw))
+    ∙ stop _ _ (ap not (sym c.starts_rise.ensures ∙ c.if-not-starts_rise.true)))
 
 pub returns-then-n-wide : goal.returns-then-n-wide
 unfolding query_refusal vertices
@@ -31,7 +31,7 @@ returns-then-n-wide c =
     sym
     (pass _ _ (ne_eqb _ _ c.if-starts-eq0.false)
     ∙ pass _ _ (sym c.bad_count.ensures ∙ c.if-bad_count.false)
-    ∙ pass _ _ (ap not (sym c.starts_rise.ensures) ∙ c.if-not-starts_rise.false-raw)
+    ∙ pass _ _ (ap not (sym c.starts_rise.ensures ∙ c.if-not-starts_rise.false))
     ∙ stop _ _ (le-leb _ _ (rw c.wide.ensures at c.if-n-wide.true)))
 
 pub returns : goal.returns
@@ -40,6 +40,6 @@ returns c =
     sym
     (pass _ _ (ne_eqb _ _ c.if-starts-eq0.false)
     ∙ pass _ _ (sym c.bad_count.ensures ∙ c.if-bad_count.false)
-    ∙ pass _ _ (ap not (sym c.starts_rise.ensures) ∙ c.if-not-starts_rise.false-raw)
+    ∙ pass _ _ (ap not (sym c.starts_rise.ensures ∙ c.if-not-starts_rise.false))
     ∙ pass _ _ (lt-leb _ _ (rw c.wide.ensures at c.if-n-wide.false))
     ∙ first-end)

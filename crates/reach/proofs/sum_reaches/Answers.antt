@@ -1,3 +1,4 @@
+use Rattle.std.proofs.Common.{rules}
 use Prim.Native.Nat.{◌-◌, ◌≤◌}
 use lib.ListN.{length}
 use native.Mathlib.Nat.{le_antisymm}
@@ -17,7 +18,8 @@ add_at-requires c =
     let (f, b) = c.requires.by_index in
     let h = c.loop-x-test.true in
     let d = c.loop-x.invariant.1 in
-    turn-fits _ c.requires.summable h d (turn-less b h d).1 c.if-parent.true
+    let both = turn-fits _ c.requires.summable h d (turn-less b h d).1 c.if-parent.true in
+    record { i_in_bounds = both.0; v_bound = both.1 }
 
 pub loop-x-preserved-then-parent : goal.loop-x-preserved-then-parent
 loop-x-preserved-then-parent c =

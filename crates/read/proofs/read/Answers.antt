@@ -10,7 +10,7 @@ unfolding read_outcome verdict
 returns-then-code-ne0 c = ends-refused _ _ _ _ c.read_refusal-code.ensures (λ e. c.if-code-ne0.true (c.read_refusal-code.ensures ∙ e)) refl
 
 pub take_records-requires : goal.take_records-requires
-take_records-requires c = let a = read-accepted _ _ _ (sym c.read_refusal-code.ensures ∙ c.if-code-ne0.false) in (a.weights-right, a.whole)
+take_records-requires c = let a = read-accepted _ _ _ (sym c.read_refusal-code.ensures ∙ c.if-code-ne0.false) in (a.weights_right, a.whole)
 
 pub returns : goal.returns
 unfolding read_outcome verdict

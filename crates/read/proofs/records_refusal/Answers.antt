@@ -1,3 +1,4 @@
+use Rattle.std.proofs.Common.{rules}
 use native.Mathlib.Omega.{arith}
 use mathlib.Core.Path.{sym, ◌∙◌}
 use Prim.Native.Nat.{◌*◌, ◌-◌, ◌≤◌}
@@ -10,17 +11,17 @@ loop-rank-init c = (search rules, search rules, checked-none _ _)
 
 pub returns-then-not-is_parent_at : goal.returns-then-not-is_parent_at
 returns-then-not-is_parent_at c =
-    sym (checked-stop c.requires.0 c.loop-rank.invariant.2 c.loop-rank-test.true (sym c.is_parent_at.ensures ∙ not-true _ c.if-not-is_parent_at.true-raw))
+    sym (checked-stop c.requires.0 c.loop-rank.invariant.2 c.loop-rank-test.true (sym c.is_parent_at.ensures ∙ c.if-not-is_parent_at.true))
 
 pub overflow_add-total : goal.overflow_add-total
-overflow_add-total c = omega (arith, c.word_at.type-inv)
+overflow_add-total c = omega (arith, c.word_at.type_inv)
 
 pub loop-rank-preserved : goal.loop-rank-preserved
 loop-rank-preserved c =
     (
       search rules,
-      omega (arith, c.word_at.type-inv),
-      checked-turn c.requires.0 c.loop-rank.invariant.2 c.loop-rank-test.true (sym c.is_parent_at.ensures ∙ not-false _ c.if-not-is_parent_at.false-raw) (c.amount-total.ensures ∙ c.word_at.ensures),
+      omega (arith, c.word_at.type_inv),
+      checked-turn c.requires.0 c.loop-rank.invariant.2 c.loop-rank-test.true (sym c.is_parent_at.ensures ∙ c.if-not-is_parent_at.false) (c.amount-total.ensures ∙ c.word_at.ensures),
     )
 
 pub returns-then-total-gt-MAX_TOTAL : goal.returns-then-total-gt-MAX_TOTAL

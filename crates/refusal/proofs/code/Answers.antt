@@ -1,3 +1,4 @@
+use Rattle.std.proofs.Common.{rules}
 use Rattle.refusal.specs.Answer.{verdict}
 use Rattle.refusal.specs.Verdict.{number}
 use Rattle.refusal.proofs.code.Goals as goal

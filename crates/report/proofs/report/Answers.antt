@@ -15,8 +15,8 @@ use Rattle.report.proofs.report.Goals as goal
 pub report_early-code-requires : goal.report_early-code-requires
 report_early-code-requires c =
     λ h. let a = c.args in
-    (lengths-right _ _ _ _ (sym (c.wrong_lengths-wrong.ensures ∙ wrong-lengths a.parents.now a.weights.now a.edges.now a.carried.now a.top.now a.block.now a.block-loads.now
-    a.edge-blocks.now a.reach.now a.block-count.now a.edges-taken.now a.compared-parents.now a.compared-weights.now a.ends.now a.jump.now a.lower.now _)
+    (lengths-right _ _ _ _ (sym (c.wrong_lengths-wrong.ensures ∙ wrong-lengths a.parents.now a.weights.now a.edges.now a.carried.now a.top.now a.block.now a.block_loads.now
+    a.edge_blocks.now a.reach.now a.block_count.now a.edges_taken.now a.compared_parents.now a.compared_weights.now a.ends.now a.jump.now a.lower.now _)
     ∙ h)).sized.weights
 
 pub returns-then-code-ne0 : goal.returns-then-code-ne0
@@ -25,8 +25,8 @@ returns-then-code-ne0 c = ends-early _ _ _ _ _ c.report_early-code.ensures (c.wr
 
 pub compare-requires : goal.compare-requires
 compare-requires c =
-    (ready _ _ _ _ (lent (written (division_of c.args.carried.now c.args.top.now c.args.block.now c.args.block-loads.now) c.args.edge-blocks.now
-    c.args.reach.now c.args.block-count.now c.args.edges-taken.now) _ _) (sym (c.report_early-code.ensures ∙ ap (report_early _ _ _ _)
+    (ready _ _ _ _ (lent (written (division_of c.args.carried.now c.args.top.now c.args.block.now c.args.block_loads.now) c.args.edge_blocks.now
+    c.args.reach.now c.args.block_count.now c.args.edges_taken.now) _ _) (sym (c.report_early-code.ensures ∙ ap (report_early _ _ _ _)
     (c.wrong_lengths-wrong.ensures ∙ wrong-lengths _ _ _ _ _ _ _ _ _ _ _ _ _ _ _ _ _)) ∙ c.if-code-ne0.false)).compares
 
 pub returns-then-not-compare : goal.returns-then-not-compare
@@ -34,19 +34,19 @@ unfolding verdict
 returns-then-not-compare c =
     ends-late _ _ _ _ _
     (sym (c.report_early-code.ensures ∙ ap (report_early _ _ _ _) (c.wrong_lengths-wrong.ensures ∙ wrong-lengths _ _ _ _ _ _ _ _ _ _ _ _ _ _ _ _ _)) ∙ c.if-code-ne0.false)
-    c.compare.ensures (not-true _ c.if-not-compare.true-raw)
+    c.compare.ensures c.if-not-compare.true
 
 pub write_report-requires : goal.write_report-requires
 write_report-requires c =
     let z =
     (sym (c.report_early-code.ensures ∙ ap (report_early _ _ _ _) (c.wrong_lengths-wrong.ensures ∙ wrong-lengths _ _ _ _ _ _ _ _ _ _ _ _ _ _ _ _ _)) ∙ c.if-code-ne0.false) in
-    let l = (ready _ _ _ _ (lent (written (division_of c.args.carried.now c.args.top.now c.args.block.now c.args.block-loads.now)
-    c.args.edge-blocks.now c.args.reach.now c.args.block-count.now c.args.edges-taken.now) (net c.args.compared-parents.now
-    c.args.compared-weights.now) (work_of c.args.ends.now c.args.jump.now c.args.lower.now)) z).lengths in (
-      write-ready _ _ _ _ (lent (written (division_of c.args.carried.now c.args.top.now c.args.block.now c.args.block-loads.now)
-          c.args.edge-blocks.now c.args.reach.now c.args.block-count.now c.args.edges-taken.now) (net c.args.compared-parents.now
-          c.args.compared-weights.now) (work_of c.args.ends.now c.args.jump.now c.args.lower.now)) z c.compare.ensures (not-false _
-          c.if-not-compare.false-raw),
+    let l = (ready _ _ _ _ (lent (written (division_of c.args.carried.now c.args.top.now c.args.block.now c.args.block_loads.now)
+    c.args.edge_blocks.now c.args.reach.now c.args.block_count.now c.args.edges_taken.now) (net c.args.compared_parents.now
+    c.args.compared_weights.now) (work_of c.args.ends.now c.args.jump.now c.args.lower.now)) z).lengths in (
+      write-ready _ _ _ _ (lent (written (division_of c.args.carried.now c.args.top.now c.args.block.now c.args.block_loads.now)
+          c.args.edge_blocks.now c.args.reach.now c.args.block_count.now c.args.edges_taken.now) (net c.args.compared_parents.now
+          c.args.compared_weights.now) (work_of c.args.ends.now c.args.jump.now c.args.lower.now)) z c.compare.ensures (not-false _
+          c.if-not-compare.false),
       l.taken,
       c.compare.auto.jump ∙ l.compared.jump,
     )
@@ -57,5 +57,5 @@ returns c =
     let k = c.compare.auto in
     ends-accepted _ _ _ _ _
     (sym (c.report_early-code.ensures ∙ ap (report_early _ _ _ _) (c.wrong_lengths-wrong.ensures ∙ wrong-lengths _ _ _ _ _ _ _ _ _ _ _ _ _ _ _ _ _)) ∙ c.if-code-ne0.false)
-    c.compare.ensures (not-false _ c.if-not-compare.false-raw) refl c.write_report.ensures
+    c.compare.ensures c.if-not-compare.false refl c.write_report.ensures
     (same-room _ _ _ _ _ _ k.1.1.1.1.1.0 k.1.1.1.1.1.1.0 k.1.1.1.1.1.1.1.0)

@@ -1,3 +1,4 @@
+use Rattle.std.proofs.Common.{rules}
 use Rattle.game.proofs.Edges.{edges-length}
 use Rattle.report_refusal.proofs.Told.{wrong-told}
 use Rattle.report_refusal.proofs.wrong_lengths.Goals as goal
@@ -9,5 +10,5 @@ overflow_add-n c =
 pub returns : goal.returns
 returns c =
     let a = c.args in
-    wrong-told a.parents.now a.weights.now a.edges.now a.carried a.top a.block a.block-loads a.edge-blocks a.reach a.block-count a.edges-taken a.compared-parents
-    a.compared-weights a.ends a.jump a.lower _ c.count-m.ensures c.wide.ensures c.wrong_tables.ensures c.wrong_figures.ensures c.wrong_compared.ensures c.not_whole.ensures
+    wrong-told a.parents.now a.weights.now a.edges.now a.carried a.top a.block a.block_loads a.edge_blocks a.reach a.block_count a.edges_taken a.compared_parents
+    a.compared_weights a.ends a.jump a.lower _ c.count-m.ensures c.wide.ensures c.wrong_tables.ensures c.wrong_figures.ensures c.wrong_compared.ensures c.not_whole.ensures

@@ -4,14 +4,18 @@ use Rattle.report_write.proofs.divide_and_reach.Goals as goal
 pub reaches-requires : goal.reaches-requires
 reaches-requires c =
     let (es, q, counted) = c.requires in
-    ((es, own-counts q counted, q.filed, q.edge-blocks), (q.reaches, q.division.carried, q.division.top, q.division.block, q.counts))
-
+    record {
+  given = (es, own-counts q counted, q.filed, q.edge_blocks);
+  reach_len = (q.reaches, q.division.carried, q.division.top, q.division.block, q.counts);
+}
 pub cut_and_pack-requires : goal.cut_and_pack-requires
 cut_and_pack-requires c =
     let (es, q, counted) = c.requires in
     let k = c.reaches.auto in
-    (q.divisible, fitting-kept q.division k.1.1.1.1.1.0 k.1.1.1.1.1.1.0 k.1.1.1.1.1.1.1.0)
-
+    record {
+  divisible = q.divisible;
+  fitting = fitting-kept q.division k.1.1.1.1.1.0 k.1.1.1.1.1.1.0 k.1.1.1.1.1.1.1.0;
+}
 pub returns : goal.returns
 returns c =
-    λ es q counted. record { divided-so = c.cut_and_pack.ensures; reached = c.reaches.ensures es (own-counts q counted) q.filed }
+    λ es q counted. record { divided_so = c.cut_and_pack.ensures; reached = c.reaches.ensures es (own-counts q counted) q.filed }

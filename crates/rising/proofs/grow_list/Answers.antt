@@ -18,10 +18,9 @@ raise_list-moved-requires c =
 pub returns : goal.returns
 returns c =
     let (g, blank, long) = c.requires in
-    let l : tie.After-raise-list = c in
-    let (raised, weighed, untouched, moves) = l.raise-list.ensures in (
-      new-whole (omega (arith, g.few)) (list-proper _ _ (rises-faultless g.rises)) refl l.raise-list.auto.1.1.0 (links-blank _ blank) untouched raised,
+    let (raised, weighed, untouched, moves) = c.raise_list-moved.ensures in (
+      new-whole (omega (arith, g.few)) (list-proper _ _ (rises-faultless g.rises)) refl c.raise_list-moved.auto.parents (links-blank _ blank) untouched raised,
       weighed,
-      c.clear.ensures ∙ same-room _ _ _ _ _ _ refl (l.raise-list.auto.1.1.1.0 ∙ c.fill.auto.table) refl,
+      c.clear.ensures ∙ same-room _ _ _ _ _ _ refl (c.raise_list-moved.auto.jump ∙ c.fill.auto.table) refl,
       moves-differ moves,
     )

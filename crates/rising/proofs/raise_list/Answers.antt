@@ -44,8 +44,10 @@ add_at-requires c =
     let t = c.loop-i.invariant in
     let head = tie_here _ t.place c.loop-i-test.true c.at-e.ensures c.rows-rows.ensures in
     let low = faultless-owner _ _ _ _ c.end_of-u.ensures (taking-faultless t.taking head) in
-    (omega (arith, low.0, t.charging.long), charging-room t.charging head low.1 (owner-end _ _ c.end_of-u.ensures) low.0)
-
+    record {
+  i_in_bounds = omega (arith, low.0, t.charging.long);
+  v_bound = charging-room t.charging head low.1 (owner-end _ _ c.end_of-u.ensures) low.0;
+}
 pub climb-moved-requires : goal.climb-moved-requires
 climb-moved-requires c =
     let t = c.loop-i.invariant in

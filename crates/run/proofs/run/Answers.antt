@@ -1,10 +1,11 @@
+use Rattle.std.proofs.Common.{rules}
 use native.Mathlib.Omega.{arith}
 use Rattle.files.specs.Files.{limit, blocks}
 use Rattle.run.proofs.Finished.{ends-refused, sizes-known, parts-runnable, limits-good, order-fits, order-counted, edges_fit, edges-counted, ends-accepted}
 use Rattle.run.proofs.run.Goals as goal
 
 pub returns-then-code-ne0 : goal.returns-then-code-ne0
-returns-then-code-ne0 c = ends-refused c.load-code.ensures c.if-code-ne0.true c.Put-refused.ensures
+returns-then-code-ne0 c = ends-refused c.load-code.ensures c.if-code-ne0.true c.put_refused.ensures
 
 pub word_at-limit-requires : goal.word_at-limit-requires
 word_at-limit-requires c = omega (arith, (sizes-known c.load-code.ensures c.if-code-ne0.false).want)
@@ -31,8 +32,10 @@ slice_bounds-divide-end-2 c =
 pub divide-requires : goal.divide-requires
 unfolding limit blocks
 divide-requires c =
-    ((parts-runnable c.load-code.ensures c.if-code-ne0.false, limits-good c.load-code.ensures c.if-code-ne0.false c.word_at-limit.ensures c.word_at-blocks.ensures), search rules)
-
+    record {
+  runnable = (parts-runnable c.load-code.ensures c.if-code-ne0.false, limits-good c.load-code.ensures c.if-code-ne0.false c.word_at-limit.ensures c.word_at-blocks.ensures);
+  text_room_in_bounds = search rules;
+}
 pub returns : goal.returns
 unfolding limit blocks
 returns c =

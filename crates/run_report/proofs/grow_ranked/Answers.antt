@@ -1,3 +1,4 @@
+use Rattle.std.proofs.Common.{rules}
 use Prim.Native.Nat.{◌+◌}
 use Rattle.game.proofs.Edges.{edges-length}
 use Rattle.files.specs.Files.{vertex_capacity, edge_capacity}

@@ -1,3 +1,4 @@
+use Rattle.std.proofs.Common.{rules}
 use Prim.Native.Nat.{◌+◌}
 use Rattle.game.proofs.Edges.{edges-length}
 use Rattle.refusal.specs.DivisionLimits.{max_blocks}
@@ -92,16 +93,15 @@ slice_bounds-put_answer-end-4 c =
 
 pub put_answer-requires : goal.put_answer-requires
 put_answer-requires c =
-    (
-      columns c.requires.ready
+    record {
+  columns = columns c.requires.ready
           (front_length vertex_capacity _ c.requires.ready.vertices c.report-answer.new.reach c.report-answer.auto.reach)
           (front_length vertex_capacity _ c.requires.ready.vertices c.report-answer.new.top c.report-answer.auto.top)
           (front_length vertex_capacity _ c.requires.ready.vertices c.report-answer.new.block c.report-answer.auto.block)
-          (front_length vertex_capacity _ c.requires.ready.vertices c.report-answer.new.block_count c.report-answer.auto.block_count),
-      text-room
-          c.requires.ready _ c.requires.text_room_in_bounds,
-    )
-
+          (front_length vertex_capacity _ c.requires.ready.vertices c.report-answer.new.block_count c.report-answer.auto.block_count);
+  totals_room_in_bounds = text-room
+          c.requires.ready _ c.requires.text_room_in_bounds;
+}
 pub returns : goal.returns
 returns c =
     put-prints c.requires.ready (report-room c.requires.ready c.count-m.ensures c.wide-k.ensures) c.report-answer.ensures

@@ -10,7 +10,7 @@ unfolding save_outcome verdict
 returns-then-code-ne0 c = ends-refused _ _ _ _ c.save_refusal-code.ensures (λ e. c.if-code-ne0.true (c.save_refusal-code.ensures ∙ e)) refl
 
 pub put_records-requires : goal.put_records-requires
-put_records-requires c = let a = save-accepted _ _ (sym c.save_refusal-code.ensures ∙ c.if-code-ne0.false) in (a.weights-right, a.whole)
+put_records-requires c = let a = save-accepted _ _ (sym c.save_refusal-code.ensures ∙ c.if-code-ne0.false) in (a.weights_right, a.whole)
 
 pub returns : goal.returns
 unfolding save_outcome verdict

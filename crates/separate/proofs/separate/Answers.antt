@@ -1,3 +1,4 @@
+use Rattle.std.proofs.Common.{rules}
 use mathlib.Core.Path.{sym, ap, ◌∙◌}
 use borrow.Author.Tests.{not-true, not-false}
 use Rattle.game.specs.Net.{net}
@@ -16,7 +17,7 @@ overflow_add-n c = search (rules, c.count.ensures, edges-length c.args.edges.now
 pub separate_early-code-requires : goal.separate_early-code-requires
 separate_early-code-requires c =
     λ h. (lengths-right _ _ _ (sym (wrong-lengths c.args.parents.now c.args.weights.now c.args.edges.now c.args.separator.now
-    c.args.compared-parents.now c.args.compared-weights.now c.args.ends.now c.args.jump.now c.args.lower.now c.count.ensures c.wrong_compared.ensures c.not_whole.ensures)
+    c.args.compared_parents.now c.args.compared_weights.now c.args.ends.now c.args.jump.now c.args.lower.now c.count.ensures c.wrong_compared.ensures c.not_whole.ensures)
     ∙ h)).weights
 
 pub returns-then-code-ne0 : goal.returns-then-code-ne0
@@ -27,18 +28,18 @@ returns-then-code-ne0 c =
 
 pub is_own-requires : goal.is_own-requires
 is_own-requires c =
-    (ready _ _ _ _ (separate_tables c.args.separator.now (net c.args.compared-parents.now c.args.compared-weights.now)
+    (ready _ _ _ _ (separate_tables c.args.separator.now (net c.args.compared_parents.now c.args.compared_weights.now)
     (work_of c.args.ends.now c.args.jump.now c.args.lower.now)) (sym
     (c.separate_early-code.ensures ∙ ap (separate_early _ _ _ _) (wrong-lengths _ _ _ _ _ _ _ _ _ c.count.ensures c.wrong_compared.ensures c.not_whole.ensures)) ∙ c.if-code-ne0.false)).tells
 
 pub returns-then-not-is_own : goal.returns-then-not-is_own
 unfolding verdict
 returns-then-not-is_own c =
-    ends-late _ _ _ _ _ (sym (c.separate_early-code.ensures ∙ ap (separate_early _ _ _ _) (wrong-lengths _ _ _ _ _ _ _ _ _ c.count.ensures c.wrong_compared.ensures c.not_whole.ensures)) ∙ c.if-code-ne0.false) c.is_own.ensures (not-true _ c.if-not-is_own.true-raw)
+    ends-late _ _ _ _ _ (sym (c.separate_early-code.ensures ∙ ap (separate_early _ _ _ _) (wrong-lengths _ _ _ _ _ _ _ _ _ c.count.ensures c.wrong_compared.ensures c.not_whole.ensures)) ∙ c.if-code-ne0.false) c.is_own.ensures c.if-not-is_own.true
 
 pub list_common-requires : goal.list_common-requires
 list_common-requires c =
-    let r = ready _ _ _ _ (separate_tables c.args.separator.now (net c.args.compared-parents.now c.args.compared-weights.now)
+    let r = ready _ _ _ _ (separate_tables c.args.separator.now (net c.args.compared_parents.now c.args.compared_weights.now)
     (work_of c.args.ends.now c.args.jump.now c.args.lower.now)) (sym
     (c.separate_early-code.ensures ∙ ap (separate_early _ _ _ _) (wrong-lengths _ _ _ _ _ _ _ _ _ c.count.ensures c.wrong_compared.ensures c.not_whole.ensures)) ∙ c.if-code-ne0.false) in
     (r.walkable, r.one, r.other, r.lengths.listed)
@@ -47,4 +48,4 @@ pub returns : goal.returns
 returns c =
     ends-listed _ _ _ _ _
     (sym (c.separate_early-code.ensures ∙ ap (separate_early _ _ _ _) (wrong-lengths _ _ _ _ _ _ _ _ _ c.count.ensures c.wrong_compared.ensures c.not_whole.ensures)) ∙ c.if-code-ne0.false)
-    c.is_own.ensures (not-false _ c.if-not-is_own.false-raw) c.list_common.ensures
+    c.is_own.ensures c.if-not-is_own.false c.list_common.ensures

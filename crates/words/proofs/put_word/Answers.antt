@@ -13,4 +13,4 @@ pub bounds-bytes-at-4 : goal.bounds-bytes-at-4
 bounds-bytes-at-4 c = simp length-set (omega arith)
 
 pub returns : goal.returns
-returns c = stores-four c.args.bytes.now c.args.t3 c.args.at (omega arith)
+returns c = stores-four c.args.bytes.now c.args.four c.args.at (omega arith)

@@ -1,3 +1,4 @@
+use Rattle.std.proofs.Common.{rules}
 use Rattle.words.specs.Word.{word_of}
 use Rattle.words.proofs.word.Goals as goal
 

@@ -1,3 +1,4 @@
+use Rattle.std.proofs.Common.{rules}
 use Rattle.words.specs.Word.{word_at}
 use Rattle.words.proofs.word_at.Goals as goal
 

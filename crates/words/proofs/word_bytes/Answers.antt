@@ -1,3 +1,4 @@
+use Rattle.std.proofs.Common.{rules}
 use Rattle.words.specs.Word.{word_bytes}
 use Rattle.words.proofs.word_bytes.Goals as goal
 

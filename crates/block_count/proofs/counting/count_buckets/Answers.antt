@@ -22,10 +22,10 @@ count_at-met-requires c =
 
 pub offset_bounds-block_count-y : goal.offset_bounds-block_count-y
 offset_bounds-block_count-y c =
-    omega (arith, c.loop-y.invariant.counts-long, c.requires.buckets.few)
+    omega (arith, c.loop-y.invariant.counts_long, c.requires.buckets.few)
 
 pub bounds-block_count-y : goal.bounds-block_count-y
-bounds-block_count-y c = omega (arith, c.loop-y.invariant.counts-long)
+bounds-block_count-y c = omega (arith, c.loop-y.invariant.counts_long)
 
 pub overflow_sub-end : goal.overflow_sub-end
 overflow_sub-end c =
@@ -42,17 +42,17 @@ known_at-known-requires c =
 
 pub offset_bounds-edges_taken-y-in-loop-y : goal.offset_bounds-edges_taken-y-in-loop-y
 offset_bounds-edges_taken-y-in-loop-y c =
-    omega (arith, c.loop-y.invariant.taken-long, c.requires.buckets.few)
+    omega (arith, c.loop-y.invariant.taken_long, c.requires.buckets.few)
 
 pub bounds-edges_taken-y-in-loop-y : goal.bounds-edges_taken-y-in-loop-y
-bounds-edges_taken-y-in-loop-y c = omega (arith, c.loop-y.invariant.taken-long)
+bounds-edges_taken-y-in-loop-y c = omega (arith, c.loop-y.invariant.taken_long)
 
 pub offset_bounds-pending-y : goal.offset_bounds-pending-y
 offset_bounds-pending-y c =
-    omega (arith, c.loop-y.invariant.pending-long, c.requires.buckets.few)
+    omega (arith, c.loop-y.invariant.pending_long, c.requires.buckets.few)
 
 pub bounds-pending-y : goal.bounds-pending-y
-bounds-pending-y c = omega (arith, c.loop-y.invariant.pending-long)
+bounds-pending-y c = omega (arith, c.loop-y.invariant.pending_long)
 
 pub loop-y-preserved : goal.loop-y-preserved
 loop-y-preserved c =

@@ -7,7 +7,7 @@ returns-then-before-eq0 c = pass-not _ _ _ _ _ c.wide-at.ensures c.if-before-eq0
 
 pub overflow_add-edges_taken : goal.overflow_add-edges_taken
 overflow_add-edges_taken c =
-    record { fits = pass_fits _ c.args.pending.now c.args.edges-taken.now c.wide-at.ensures c.if-before-eq0.false c.requires.small }
+    record { fits = pass_fits _ c.args.pending.now c.args.edges_taken.now c.wide-at.ensures c.if-before-eq0.false c.requires.small }
 
 pub overflow_sub-result : goal.overflow_sub-result
 overflow_sub-result c = omega (arith, c.waits.ensures, waiting-le c.next-after.result)

@@ -8,7 +8,7 @@ use Rattle.block_count.proofs.waiting.settle.Goals as goal
 
 pub count_waiting-waiting-requires : goal.count_waiting-waiting-requires
 count_waiting-waiting-requires c =
-    omega (arith, c.requires.few, c.requires.pending-long)
+    omega (arith, c.requires.few, c.requires.pending_long)
 
 pub loop-i-init : goal.loop-i-init
 loop-i-init c = sweep-start c.requires c.count-m.ensures c.count_waiting-waiting.ensures

@@ -24,4 +24,4 @@ loop-x-preserved c =
 
 pub returns : goal.returns
 unfolding volume_by
-returns c = c.loop-x.invariant.1 ∙ ap (λ (n : ℕ). total (tabulate n (volume_term c.args.block-count.now))) (omega arith)
+returns c = c.loop-x.invariant.1 ∙ ap (λ (n : ℕ). total (tabulate n (volume_term c.args.block_count.now))) (omega arith)

@@ -12,8 +12,10 @@ loop-x-init c =
 
 pub lighten-kept-requires : goal.lighten-kept-requires
 lighten-kept-requires c =
-    (cutting-loaded c.requires.divisible c.loop-x.invariant c.loop-x-test.true, cutting-children c.requires.divisible c.loop-x.invariant c.loop-x-test.true)
-
+    record {
+  loaded = cutting-loaded c.requires.divisible c.loop-x.invariant c.loop-x-test.true;
+  children = cutting-children c.requires.divisible c.loop-x.invariant c.loop-x-test.true;
+}
 pub offset_bounds-link-above : goal.offset_bounds-link-above
 offset_bounds-link-above c =
     omega (

@@ -14,10 +14,10 @@ bounds-next-wide c =
     omega (arith, c.wide.ensures, listed-inside c.loop-child.invariant c.loop-child-test.true)
 
 pub overflow_add-count : goal.overflow_add-count
-overflow_add-count c = omega (arith, ltb-true c.loop-child.count 32 c.if-count-lt-SHORT.true-raw)
+overflow_add-count c = omega arith
 
 pub loop-child-smaller : goal.loop-child-smaller
-loop-child-smaller c = omega (arith, ltb-true c.loop-child.count 32 c.if-count-lt-SHORT.true-raw)
+loop-child-smaller c = omega arith
 
 pub loop-child-preserved : goal.loop-child-preserved
 loop-child-preserved c =

@@ -10,8 +10,11 @@ use Rattle.groups.proofs.cutting.lighten_by_class.Goals as goal
 
 pub file_children-requires : goal.file_children-requires
 file_children-requires c =
-    (c.requires.children.listed, (c.requires.loaded.told ∙ sym c.requires.loaded.tails, c.requires.unfiled))
-
+    record {
+  listed = c.requires.children.listed;
+  carried_len = c.requires.loaded.told ∙ sym c.requires.loaded.tails;
+  unfiled = c.requires.unfiled;
+}
 pub overflow_add-class : goal.overflow_add-class
 overflow_add-class c =
     omega (arith, class-room _ _ c.class_of-class.ensures, c.file_children.auto.heads, c.requires.unfiled.few)
@@ -34,13 +37,12 @@ floor_of-requires c =
 
 pub trim-left-requires : goal.trim-left-requires
 trim-left-requires c =
-    (
-      lighter-loaded c.requires.loaded c.requires.children c.file_children.ensures c.loop-class.invariant c.file_children.auto.next,
-      lighter-candidates
+    record {
+  loaded = lighter-loaded c.requires.loaded c.requires.children c.file_children.ensures c.loop-class.invariant c.file_children.auto.next;
+  candidates = lighter-candidates
           c.requires.loaded c.requires.children c.file_children.ensures c.loop-class.invariant (c.loop-class.class - 1) (omega (arith, c.loop-class-test.true))
-          (omega (arith, c.file_children.auto.heads, c.requires.unfiled.some)) c.floor_of.ensures (ltb-true _ _ c.if-limit-weight.true-raw),
-    )
-
+          (omega (arith, c.file_children.auto.heads, c.requires.unfiled.some)) c.floor_of.ensures (ltb-true _ _ c.if-limit-weight.true);
+}
 pub loop-class-preserved-then-heads-class : goal.loop-class-preserved-then-heads-class
 loop-class-preserved-then-heads-class c =
     lighter-trimmed c.requires.loaded c.requires.children c.file_children.ensures c.loop-class.invariant (c.loop-class.class - 1) (omega (arith, c.loop-class-test.true))
@@ -50,7 +52,7 @@ loop-class-preserved-then-heads-class c =
 pub loop-class-preserved : goal.loop-class-preserved
 loop-class-preserved c =
     lighter-skip c.requires.loaded c.requires.children c.file_children.ensures c.loop-class.invariant (c.loop-class.class - 1) (omega (arith, c.loop-class-test.true))
-    (omega (arith, c.file_children.auto.heads, c.requires.unfiled.some)) (ltb-true _ _ c.if-limit-weight.true-raw) c.if-heads-class.false
+    (omega (arith, c.file_children.auto.heads, c.requires.unfiled.some)) (ltb-true _ _ c.if-limit-weight.true) c.if-heads-class.false
 
 pub overflow_add-result : goal.overflow_add-result
 overflow_add-result c =

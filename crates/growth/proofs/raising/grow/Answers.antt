@@ -14,7 +14,7 @@ raise-raising-requires c =
     let g = c.requires in
     record {
       long = g.long;
-      blank-jump = c.fill.ensures ∙ ap (λ (n : ℕ). replicate n absent) g.long-jump;
+      blank_jump = c.fill.ensures ∙ ap (λ (n : ℕ). replicate n absent) g.long_jump;
       buckets = g.buckets;
     }
 

@@ -28,11 +28,11 @@ loop-y-init c =
       same = b.long;
       untouched = untouched-none _ _;
       moves = moves-none _ _ _;
-      upward = subst (Upward _) (sym b.blank-jump) (upward-blank _);
+      upward = subst (Upward _) (sym b.blank_jump) (upward-blank _);
       within = omega arith;
       start = refl;
       reading = read-start _ _;
-      raised = λ E k f. subst₂ (Raised _ E 0) (sym (new-blank _ b.long b.blank-jump)) (sym b.blank-jump) (raise-start _ E (omega (arith, b.buckets.few)));
+      raised = λ E k f. subst₂ (Raised _ E 0) (sym (new-blank _ b.long b.blank_jump)) (sym b.blank_jump) (raise-start _ E (omega (arith, b.buckets.few)));
     }
 
 pub slice_bounds-gather-count : goal.slice_bounds-gather-count

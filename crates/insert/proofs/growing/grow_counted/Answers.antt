@@ -13,61 +13,55 @@ use Rattle.insert.proofs.growing.grow_counted.Goals as goal
 
 pub add_all-requires : goal.add_all-requires
 add_all-requires c =
-    let s : tie.Start = c in
-    (charged-long s.requires.0 s.requires.1 s.requires.2, charged-room s.requires.0 s.requires.1 s.requires.2)
+    (charged-long c.requires.0 c.requires.1 c.requires.2, charged-room c.requires.0 c.requires.1 c.requires.2)
 
 pub file_counted-requires : goal.file_counted-requires
 file_counted-requires c =
-    let s : tie.Start = c in
-    let e = s.requires.0 in
-    (s.requires.2.counts ∙ ap (λ (k : ℕ). upper_counts k (edges_of s.args.edges.now)) (sym e.long), (rw e.long e.faultless, (omega (arith, e.room), omega (arith, e.small))))
-
+    let e = c.requires.0 in
+    record {
+  ends_value = c.requires.2.counts ∙ ap (λ (k : ℕ). upper_counts k (edges_of c.args.edges.now)) (sym e.long);
+  edges_value = rw e.long e.faultless;
+  edges_in_bounds = omega (arith, e.room);
+  lower_len_bound = omega (arith, e.small);
+}
 pub grow-requires : goal.grow-requires
 grow-requires c =
-    let d : tie.After-file-counted = c in
-    let s : tie.Start = d.before.before.before.before.before.before.before.before.before.before.before.before.before.before.before.before.before in
-    let e = s.requires.0 in
-    filed-growable d.file-counted.ensures (omega (arith, e.long, e.table.few)) (sym e.long) (e.long-jump ∙ sym e.long)
+    let e = c.requires.0 in
+    filed-growable c.file_counted.ensures (omega (arith, e.long, e.table.few)) (sym e.long) (e.long_jump ∙ sym e.long)
 
 pub returns-then-is_all : goal.returns-then-is_all
 returns-then-is_all c =
-    let d : tie.After-file-counted = c in
-    let at-if1 = d.before.before.before in
-    let at-is-all = at-if1.before in
-    let at-add-all = at-is-all.before.before.before.before in
-    let s : tie.Start = at-add-all.before.before.before.before.before.before.before.before.before in
-    let blank = at-is-all.is_all.ensures at-if1.if1.true in
-    let g = grown-filed d.file-counted.ensures (links-blank _ blank) c.grow.ensures.0.grown in (
+    let blank = c.is_all.ensures c.if-is_all.true in
+    let g = grown-filed c.file_counted.ensures (links-blank _ blank) c.grow.ensures.0.grown in (
       record {
-        grown = g ∙ first-links _ blank s.requires.0.long;
-        clear = c.grow.ensures.0.clear ∙ same-room _ _ _ _ _ _ d.file-counted.auto.1.0 refl d.file-counted.auto.1.1.0;
+        grown = g ∙ first-links _ blank c.requires.0.long;
+        clear = c.grow.ensures.0.clear ∙ same-room _ _ _ _ _ _ c.file_counted.auto.ends refl c.file_counted.auto.lower;
       },
-      at-add-all.add-all.ensures ∙ charged-weighs s.requires.0 s.requires.1 s.requires.2,
+      c.add_all.ensures ∙ charged-weighs c.requires.0 c.requires.1 c.requires.2,
       c.grow.ensures.1,
     )
 
 pub file_counted_edges-requires : goal.file_counted_edges-requires
 file_counted_edges-requires c =
-    let s : tie.Start = c in
-    let e = s.requires.0 in
-    (s.requires.2.counts, (e.table.sound, (e.faultless, (e.room, omega (arith, e.small)))))
-
+    let e = c.requires.0 in
+    record {
+  ends_value = c.requires.2.counts;
+  parents_value = e.table.sound;
+  edges_value = e.faultless;
+  edges_in_bounds = e.room;
+  lower_len_bound = omega (arith, e.small);
+}
 pub grow-requires-2 : goal.grow-requires-2
 grow-requires-2 c =
-    let d : tie.After-file-counted-edges = c in
-    let s : tie.Start = d.before.before.before.before.before.before.before.before.before.before.before.before.before.before.before.before.before.before in
-    filed-growable d.file-counted-edges.ensures s.requires.0.table.few refl s.requires.0.long-jump
+    filed-growable c.file_counted_edges.ensures c.requires.0.table.few refl c.requires.0.long_jump
 
 pub returns : goal.returns
 returns c =
-    let d : tie.After-file-counted-edges = c in
-    let at-add-all = d.before.before.before.before.before.before.before.before.before in
-    let s : tie.Start = at-add-all.before.before.before.before.before.before.before.before.before in
-    let e = s.requires.0 in (
+    let e = c.requires.0 in (
       record {
-        grown = rest-grown _ e (put-none e.table e.faultless) refl d.file-counted-edges.ensures c.grow-2.ensures.0;
-        clear = c.grow-2.ensures.0.clear ∙ same-room _ _ _ _ _ _ d.file-counted-edges.auto.1.1.0 refl d.file-counted-edges.auto.1.1.1.0;
+        grown = rest-grown _ e (put-none e.table e.faultless) refl c.file_counted_edges.ensures c.grow-2.ensures.0;
+        clear = c.grow-2.ensures.0.clear ∙ same-room _ _ _ _ _ _ c.file_counted_edges.auto.ends refl c.file_counted_edges.auto.lower;
       },
-      at-add-all.add-all.ensures ∙ charged-weighs e s.requires.1 s.requires.2,
+      c.add_all.ensures ∙ charged-weighs e c.requires.1 c.requires.2,
       c.grow-2.ensures.1,
     )

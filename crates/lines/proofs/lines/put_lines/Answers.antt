@@ -1,3 +1,4 @@
+use Rattle.std.proofs.Common.{rules}
 use Prim.Native.Nat.{◌-◌, ◌≤◌}
 use lib.ListN.{length}
 use Rattle.decimal.proofs.Runs.{put-length}

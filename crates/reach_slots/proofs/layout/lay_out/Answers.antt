@@ -1,3 +1,4 @@
+use Rattle.std.proofs.Common.{rules}
 use mathlib.Core.Path.{ap, ◌∙◌}
 use Rattle.game.specs.Table.{sum as total}
 use Rattle.reach_slots.proofs.layout.lay_out.Goals as goal
@@ -9,8 +10,10 @@ pub place_subtrees-requires : goal.place_subtrees-requires
 place_subtrees-requires c =
     let e = ap total c.copy.ensures ∙ c.requires.counts_value in
     let st = rw e at c.sum_subtrees.ensures in
-    (search rules, (_, st))
-
+    record {
+  ends_len = search rules;
+  by_index = (_, st);
+}
 pub returns : goal.returns
 returns c =
     let e = ap total c.copy.ensures ∙ c.requires.counts_value in

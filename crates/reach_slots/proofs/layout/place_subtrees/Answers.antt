@@ -11,7 +11,7 @@ use Rattle.reach_slots.proofs.layout.place_subtrees.Goals as goal
 pub loop-x-init : goal.loop-x-init
 loop-x-init c =
     let (e, f) = c.requires.ends_len in
-    (record { below = le_refl _; ends-entries = e; stops-entries = f; sizes = λ x h. refl }, λ w st. stage-first f st)
+    (record { below = le_refl _; ends_entries = e; stops_entries = f; sizes = λ x h. refl }, λ w st. stage-first f st)
 
 pub overflow_sub-top : goal.overflow_sub-top
 overflow_sub-top c =

@@ -1,3 +1,4 @@
+use Rattle.std.proofs.Common.{rules}
 use Prim.Native.Nat.{◌-◌, ◌≤◌}
 use lib.ListN.{length}
 use mathlib.Core.List.{[]}
@@ -10,7 +11,8 @@ loop-x-init c = (search rules, summed-first [] c.requires.entries)
 
 pub add_at-requires : goal.add_at-requires
 add_at-requires c =
-    keep-fits c.requires c.loop-x-test.true c.loop-x.invariant.1 c.if-parent.true
+    let both = keep-fits c.requires c.loop-x-test.true c.loop-x.invariant.1 c.if-parent.true in
+    record { i_in_bounds = both.0; v_bound = both.1 }
 
 pub loop-x-preserved-then-parent : goal.loop-x-preserved-then-parent
 loop-x-preserved-then-parent c =

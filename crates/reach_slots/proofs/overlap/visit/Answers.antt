@@ -1,3 +1,4 @@
+use Rattle.std.proofs.Common.{rules}
 use native.Mathlib.Omega.{arith}
 use mathlib.Core.Path.{◌≡◌, refl, sym, ap, ◌∙◌}
 use mathlib.Core.Logic.{⊎_elim}
@@ -8,25 +9,26 @@ use Rattle.game.specs.Edge.{Edge}
 use Rattle.reach_slots.specs.Visit.{Slotted, Empty}
 use Rattle.reach_slots.proofs.Turns.{Slot, slot-mark, slot-first, slot-other}
 use Rattle.reach_slots.proofs.Visiting.{Counting, counting-first, slot-inside, path-under, overlap-fits, counting-step, visited-last}
+use Rattle.reach_slots.proofs.overlap.visit.Goals.{Joined-k-stop}
 use Rattle.reach_slots.proofs.overlap.visit.Goals as goal
 
 -- the edge in slot k, whichever way its ends were read
-slot : (c : tie.Joined1 invariant-loop decreases-loop) {p filed stops : List ℕ} {es : List Edge}
-    → Counting p c.before.before.before.before.before.before.before.before.before.before.before.args.counts.now es filed stops
-    c.before.before.before.before.before.before.before.before.before.before.before.args.ends.now
-    c.before.before.before.before.before.before.before.before.before.before.before.args.first.now
-    c.before.before.before.before.before.before.before.before.before.before.before.args.slots.now c.before.before.before.loop.ancestor
-    c.before.before.before.loop.previous c.before.before.before.loop.overlaps c.before.before.before.loop.k c.before.before.before.loop.u
-    c.before.before.before.loop.stop
-    → Slot c.before.before.before.before.before.before.before.before.before.before.before.args.counts.now stops filed c.before.before.before.loop.k c.if1.u c.if1.y c.if1.stop
+slot : (c : Joined-k-stop) {p filed stops : List ℕ} {es : List Edge}
+    → Counting p c.args.counts.now es filed stops
+    c.args.ends.now
+    c.args.first.now
+    c.args.slots.now c.loop-k.ancestor
+    c.loop-k.previous c.loop-k.overlaps c.loop-k.k c.loop-k.u
+    c.loop-k.stop
+    → Slot c.args.counts.now stops filed c.loop-k.k c.if-k-stop.u c.if-k-stop.y c.if-k-stop.stop
 slot c d =
     let l = d.slotted.layout in
     let m = d.slotted.marked in
-    let h = c.before.before.loop-test.true in
+    let h = c.loop-k-test.true in
     ⊎_elim
-    (λ a. slot-first l h m d.turn a.0.taken c.before.read_at.ensures a.1.ensures a.2.ensures a.3 a.4 a.5)
-    (λ a. slot-other l h m d.turn a.0.left c.before.read_at.ensures a.1 a.2 a.3)
-    c.if1.branch
+    (λ a. slot-first l h m d.turn a.0.taken c.read_at-y.ensures a.1.ensures a.2.ensures a.3 a.4 a.5)
+    (λ a. slot-other l h m d.turn a.0.left c.read_at-y.ensures a.1 a.2 a.3)
+    c.if-k-stop.branch
 
 pub loop-k-init : goal.loop-k-init
 loop-k-init c = (search rules, refl, refl, refl, λ p es filed stops g e. counting-first g e)
@@ -56,19 +58,19 @@ pub read_at-v-requires : goal.read_at-v-requires
 read_at-v-requires c =
     let (p, es, filed, stops, g, e) = c.requires in
     let d = c.loop-k.invariant.4 p es filed stops g e in
-    slot-inside d (slot c d)
+    slot-inside d (slot (goal.at.read_at-v-requires c).After-read_at-y d)
 
 pub path_end-r-requires : goal.path_end-r-requires
 path_end-r-requires c =
     let (p, es, filed, stops, g, e) = c.requires in
     let d = c.loop-k.invariant.4 p es filed stops g e in
-    (p, d.jumps, path-under d (slot c d) c.read_at-v.ensures)
+    (p, d.jumps, path-under d (slot (goal.at.path_end-r-requires c).After-read_at-y d) c.read_at-v.ensures)
 
 pub add_at-requires : goal.add_at-requires
 add_at-requires c =
     let (p, es, filed, stops, g, e) = c.requires in
     let d = c.loop-k.invariant.4 p es filed stops g e in
-    let s = slot c d in
+    let s = slot (goal.at.add_at-requires c).After-read_at-y d in
     let rv = c.read_at-v.ensures in
     overlap-fits d s rv (c.path_end-r.ensures p d.jumps (path-under d s rv)).1 c.loop-k-test.true
 
@@ -76,7 +78,7 @@ pub write_at-requires : goal.write_at-requires
 write_at-requires c =
     let (p, es, filed, stops, g, e) = c.requires in
     let d = c.loop-k.invariant.4 p es filed stops g e in
-    slot-inside d (slot c d)
+    slot-inside d (slot (goal.at.write_at-requires c).After-read_at-y d)
 
 pub overflow_add-k : goal.overflow_add-k
 overflow_add-k c =
@@ -96,14 +98,14 @@ loop-k-preserved c =
     let rv = c.read_at-v.ensures in
     let (p, es, filed, stops, g, e) = c.requires in
     let d = inv p es filed stops g e in
-    let js = (c.path_end-r.ensures p d.jumps (path-under d (slot c d) rv)).0 in (
+    let js = (c.path_end-r.ensures p d.jumps (path-under d (slot (goal.at.loop-k-preserved c).After-read_at-y d) rv)).0 in (
       search rules,
       js.entries ∙ sym d.jumps.entries ∙ a,
       ap length c.write_at.ensures ∙ simp length-set b,
       ap length c.add_at.ensures ∙ simp length-set o,
       λ p es filed stops g e.
           let d = inv p es filed stops g e in
-          let s = slot c d in
+          let s = slot (goal.at.loop-k-preserved c).After-read_at-y d in
           let (js, f) = c.path_end-r.ensures p d.jumps (path-under d s rv) in
           counting-step d s rv f js c.add_at.ensures c.write_at.ensures,
     )
