@@ -106,6 +106,8 @@ module _ {n : ℕ} (some : 0 < n) (few : n ≤ max_vertices) where
       → (tables : Net) → length tables.parents ≡ n → length tables.weights ≡ n → (laid tables lots ≡ done-with (net_of n (together lists))) × Proper n (without_rows (together lists))
   unfolding laid together join_outcome
   lots-net [] [] none takes light tables p w = (started-net tables p w, proper-nil n)
+  lots-net [] (lot ∷ lots) x takes light tables p w = elim x [ ]
+  lots-net (ts ∷ lists) [] x takes light tables p w = elim x [ ]
   lots-net (ts ∷ lists) (lot ∷ lots) (more of rest) takes light tables p w =
       let sum = charges-append (together lists) ts in
       let own = takes ts (Memᴰ.head refl) in

@@ -14,7 +14,7 @@ use Rattle.cost.proofs.VolumeBound.{volume-bound}
 use Rattle.report.proofs.Own.{own-not-23, accepted-totals}
 use Rattle.separate.proofs.Own.{own-not-23 as separate-not-23}
 use Rattle.separate.proofs.Separation.{separate-separates}
-use Rattle.history.specs.World.{World, Call}
+use Rattle.history.specs.World.{World, Call, step}
 use Rattle.history.specs.Book.{Book, blank}
 use Rattle.history.specs.History.{world_after, book_after, Reports, Separated, NetHolds, FileHolds, Holds}
 use Rattle.history.proofs.Steps.{NetOf, FileOf, Kept, net-unrecorded, file-unrecorded, net-lengths, parents-length, net-parents, step_keeps}
@@ -70,7 +70,7 @@ blank-kept w = record { nets = λ i. net-unrecorded; files = λ f. file-unrecord
 kept-after : {w : World} {b : Book} (cs : List Call) → Kept w b → Kept (world_after w cs) (book_after w b cs)
 unfolding world_after book_after
 kept-after [] v = v
-kept-after (c ∷ cs) v = kept-after cs (step_keeps c v)
+kept-after {w = w} {b = b} (c ∷ cs) v = kept-after {w = (step w c).world} cs (step_keeps c v)
 
 -- After every list of calls, whatever the tables held at first.
 pub history : (w : World) (cs : List Call) → Holds (world_after w cs) (book_after w blank cs)

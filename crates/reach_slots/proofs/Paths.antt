@@ -49,9 +49,9 @@ module _ {p : List ℕ} (s : Sound p) (n : length p ≤ absent) where
       (λ (d : u ≢ x). rw (unit-elsewhere u x d, under-link s n x u c d m, zero-add))
 
   -- along a path what comes in at u goes out at r
-  pub path-balance : {u r : ℕ} → Climbs p r u → (x : ℕ) → lit p u r x + unit r x ≡ unit u x + child_sum p (lit p u r) x x
+  pub path-balance : {r u : ℕ} → Climbs p r u → (x : ℕ) → lit p u r x + unit r x ≡ unit u x + child_sum p (lit p u r) x x
   path-balance {u} top x = omega (arith, lit-top p u x, child_sum-none p (lit p u u) x x (λ c l e. lit-top p u c))
-  path-balance {u} {r} (up {c = c} m k) x =
+  path-balance {r} {u} (up {c = c} m k) x =
       let l = link-inv p m in
       let h : u < c = (link_up s m).0 in
       let sums : child_sum p (lit p u r) x x ≡ unit c x + child_sum p (lit p c r) x x =

@@ -15,13 +15,13 @@ use Rattle.cost.specs.Figures.{totals_of}
 use Rattle.report_write.specs.Written.{Written, figures}
 
 -- What writing is given: a net that is the net of its edges, which are filed, that Divide accepts, and tables that fit.
-pub record Reportable (p w : List ℕ) (B : ℕ) (es : List Edge) (ends lower : List ℕ) (was : DivisionTables) (edge_blocks reach block_count : List ℕ) : Type 0 where
+pub record Reportable (p w : List ℕ) (B : ℕ) (es : List Edge) (ends lower : List ℕ) (was : DivisionTables) (blocks reach block_count : List ℕ) : Type 0 where
   pub some : 0 < length p
   pub own : Given p (lower_counts (length p) es) es
   pub filed : Filed (length p) es ends lower
   pub divisible : Divisible p w B
   pub division : Fitting (length p) was
-  pub edge_blocks : length edge_blocks ≡ length es
+  pub edge_blocks : length blocks ≡ length es
   pub reaches : length reach ≡ length p
   pub counts : length block_count ≡ length p
 

@@ -11,8 +11,8 @@ count_buckets-requires c = count-ready c.requires c.wide.ensures refl
 
 pub settle-requires : goal.settle-requires
 settle-requires c =
-    let k = c.count_buckets.auto in sweep-ready c.requires c.count_buckets.ensures k.1.1.1.1.1.0 k.1.1.1.1.1.1.0
+    let k = c.count_buckets.auto in sweep-ready c.requires c.count_buckets.ensures k.edges_taken k.pending
 
 pub returns : goal.returns
 returns c =
-    let k = c.count_buckets.auto in let m = c.settle.auto in all-written c.requires c.count_buckets.ensures k.1.1.1.1.0 (m.1.1.1.0 ∙ k.1.1.1.1.1.0) c.settle.ensures
+    let k = c.count_buckets.auto in let m = c.settle.auto in all-written c.requires c.count_buckets.ensures k.block_count (m.edges_taken ∙ k.edges_taken) c.settle.ensures

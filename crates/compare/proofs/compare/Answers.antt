@@ -21,4 +21,4 @@ clear-requires c = (omega arith, refl)
 pub returns : goal.returns
 returns c =
     let k = c.grow_net.auto in
-    compared-other c.requires c.grow_net.ensures c.same_net.ensures c.if-same_net.false (c.clear.ensures ∙ same-room _ _ _ _ _ _ k.1.1.1.0 k.1.1.1.1.0 k.1.1.1.1.1.0)
+    compared-other c.requires c.grow_net.ensures c.same_net.ensures c.if-same_net.false (c.clear.ensures ∙ same-room _ _ _ _ _ _ k.ends k.jump k.lower)

@@ -5,8 +5,23 @@ use Prim.Native.Nat.{◌-◌, ◌<◌, ◌≤◌}
 use Rattle.game.specs.Game.{absent}
 use Rattle.cut.proofs.Turns.{Turn, Scanning, Found, turns_left, restart-less, turn-begin, turn_inside, turn-few, turn-restart, turn-none, turn-found, turn-cut, turn-done, turn-less, scan-begin, at-inside, at_up, scan-taken, scan-passed, cut_inside, cut-least}
 use borrow.Author.Tests.{ltb-false}
-use Rattle.cut.proofs.trim.Invariants.{over, seen, found}
+use Rattle.cut.proofs.trim.Goals.{Joined-found-most-2, then-loop-child-test+else-found-most, else-loop-child-test, then-found-most-2+else-start-first, else-found-most-2, then-found-here, else-found-here}
 use Rattle.cut.proofs.trim.Goals as goal
+
+-- how the scan ended: at the end of the list, or at one that carries as much as any
+over : (c : Joined-found-most-2) → (c.loop-child.child ≡ absent) ⊎ (c.cut.most ≤ c.loop-child.found)
+over c =
+    elim c.loop-child-test.branch [
+      then-loop-child-test+else-found-most w ↦ inr w.if-found-most.false
+      | else-loop-child-test w ↦ inl w.loop-child-test.false
+    ]
+
+seen : (c : Joined-found-most-2) → (c.cut.most ≤ c.loop-child.found) ⊎ ((c.loop-child.found < c.cut.most) × (c.cut.start ≡ c.args.first))
+seen c =
+    elim c.if-found-most-2.branch [
+      then-found-most-2+else-start-first w ↦ inr (w.if-found-most-2.true, w.if-start-first.false)
+      | else-found-most-2 w ↦ inl w.if-found-most-2.false
+    ]
 
 pub cut-init : goal.cut-init
 cut-init c = turn-begin c.requires.loaded c.requires.candidates
@@ -98,12 +113,12 @@ loop-child-smaller c =
 
 pub loop-child-preserved : goal.loop-child-preserved
 loop-child-preserved c =
-    ⊎_elim
-    (λ w. scan-taken c.loop-child.invariant (turn_inside c.requires.loaded c.requires.candidates c.cut.invariant) (turn-few c.requires.loaded c.requires.candidates c.cut.invariant)
-    c.loop-child-test.true c.wide-at.ensures c.weight_on-here.ensures w.0.taken w.1 w.2)
-    (λ w. scan-passed c.loop-child.invariant (turn_inside c.requires.loaded c.requires.candidates c.cut.invariant) (turn-few c.requires.loaded c.requires.candidates c.cut.invariant)
-    c.loop-child-test.true c.wide-at.ensures c.weight_on-here.ensures w.0.left w.1 w.2)
-    c.if-found-here.branch
+    elim c.if-found-here.branch [
+      then-found-here w ↦ scan-taken c.loop-child.invariant (turn_inside c.requires.loaded c.requires.candidates c.cut.invariant) (turn-few c.requires.loaded c.requires.candidates c.cut.invariant)
+          c.loop-child-test.true c.wide-at.ensures c.weight_on-here.ensures w.if-found-here.true w.heaviest-is w.found-is
+      | else-found-here w ↦ scan-passed c.loop-child.invariant (turn_inside c.requires.loaded c.requires.candidates c.cut.invariant) (turn-few c.requires.loaded c.requires.candidates c.cut.invariant)
+          c.loop-child-test.true c.wide-at.ensures c.weight_on-here.ensures w.if-found-here.false w.heaviest-is w.found-is
+    ]
 
 pub cut-smaller-then-start-first : goal.cut-smaller-then-start-first
 cut-smaller-then-start-first c = restart-less _ _ _ _ c.if-start-first.true
@@ -114,31 +129,31 @@ cut-preserved-then-start-first c =
 
 pub offset_bounds-link-at-in-cut : goal.offset_bounds-link-at-in-cut
 offset_bounds-link-at-in-cut c =
-    omega (arith, cut_inside c.requires.loaded c.requires.candidates c.cut.invariant (found (goal.at.offset_bounds-link-at-in-cut c).After-wide-at-in-cut) c.if-weight-uncut.false c.wide-at-in-cut.ensures, c.requires.loaded.few, c.requires.loaded.tails, c.requires.loaded.told, c.cut.invariant.size)
+    omega (arith, cut_inside c.requires.loaded c.requires.candidates c.cut.invariant (let at = (goal.at.offset_bounds-link-at-in-cut c).Joined-found-most-2 in turn-found c.requires.loaded c.requires.candidates c.cut.invariant c.loop-child.invariant (over at) (seen at) c.if-found-floor.false) c.if-weight-uncut.false c.wide-at-in-cut.ensures, c.requires.loaded.few, c.requires.loaded.tails, c.requires.loaded.told, c.cut.invariant.size)
 
 pub bounds-link-at-in-cut : goal.bounds-link-at-in-cut
 bounds-link-at-in-cut c =
-    cut_inside c.requires.loaded c.requires.candidates c.cut.invariant (found (goal.at.bounds-link-at-in-cut c).After-wide-at-in-cut) c.if-weight-uncut.false c.wide-at-in-cut.ensures
+    cut_inside c.requires.loaded c.requires.candidates c.cut.invariant (let at = (goal.at.bounds-link-at-in-cut c).Joined-found-most-2 in turn-found c.requires.loaded c.requires.candidates c.cut.invariant c.loop-child.invariant (over at) (seen at) c.if-found-floor.false) c.if-weight-uncut.false c.wide-at-in-cut.ensures
 
 pub overflow_sub-uncut : goal.overflow_sub-uncut
 overflow_sub-uncut c =
-    cut-least c.requires.loaded c.requires.candidates c.cut.invariant (found (goal.at.overflow_sub-uncut c).After-wide-at-in-cut) c.if-weight-uncut.false c.wide-at-in-cut.ensures
+    cut-least c.requires.loaded c.requires.candidates c.cut.invariant (let at = (goal.at.overflow_sub-uncut c).Joined-found-most-2 in turn-found c.requires.loaded c.requires.candidates c.cut.invariant c.loop-child.invariant (over at) (seen at) c.if-found-floor.false) c.if-weight-uncut.false c.wide-at-in-cut.ensures
 
 pub offset_bounds-next-at-in-cut : goal.offset_bounds-next-at-in-cut
 offset_bounds-next-at-in-cut c =
-    omega (arith, cut_inside c.requires.loaded c.requires.candidates c.cut.invariant (found (goal.at.offset_bounds-next-at-in-cut c).After-wide-at-in-cut) c.if-weight-uncut.false c.wide-at-in-cut.ensures, c.requires.loaded.few, c.requires.loaded.tails, c.requires.loaded.told, c.cut.invariant.size)
+    omega (arith, cut_inside c.requires.loaded c.requires.candidates c.cut.invariant (let at = (goal.at.offset_bounds-next-at-in-cut c).Joined-found-most-2 in turn-found c.requires.loaded c.requires.candidates c.cut.invariant c.loop-child.invariant (over at) (seen at) c.if-found-floor.false) c.if-weight-uncut.false c.wide-at-in-cut.ensures, c.requires.loaded.few, c.requires.loaded.tails, c.requires.loaded.told, c.cut.invariant.size)
 
 pub bounds-next-at-in-cut : goal.bounds-next-at-in-cut
 bounds-next-at-in-cut c =
-    omega (arith, cut_inside c.requires.loaded c.requires.candidates c.cut.invariant (found ((goal.at.bounds-next-at-in-cut c).After-wide-at-in-cut)) c.if-weight-uncut.false c.wide-at-in-cut.ensures, c.requires.loaded.few, c.requires.loaded.tails, c.requires.loaded.told, c.cut.invariant.size)
+    omega (arith, cut_inside c.requires.loaded c.requires.candidates c.cut.invariant (let at = (goal.at.bounds-next-at-in-cut c).Joined-found-most-2 in turn-found c.requires.loaded c.requires.candidates c.cut.invariant c.loop-child.invariant (over at) (seen at) c.if-found-floor.false) c.if-weight-uncut.false c.wide-at-in-cut.ensures, c.requires.loaded.few, c.requires.loaded.tails, c.requires.loaded.told, c.cut.invariant.size)
 
 pub cut-smaller : goal.cut-smaller
 cut-smaller c =
-    turn-less c.requires.loaded c.requires.candidates c.cut.invariant (found ((goal.at.cut-smaller c).After-wide-at-in-cut)) c.if-weight-uncut.false c.wide-at-in-cut.ensures
+    turn-less c.requires.loaded c.requires.candidates c.cut.invariant (let at = (goal.at.cut-smaller c).Joined-found-most-2 in turn-found c.requires.loaded c.requires.candidates c.cut.invariant c.loop-child.invariant (over at) (seen at) c.if-found-floor.false) c.if-weight-uncut.false c.wide-at-in-cut.ensures
 
 pub cut-preserved : goal.cut-preserved
 cut-preserved c =
-    turn-cut c.requires.loaded c.requires.candidates c.cut.invariant (found ((goal.at.cut-preserved c).After-wide-at-in-cut)) c.if-weight-uncut.false c.wide-at-in-cut.ensures
+    turn-cut c.requires.loaded c.requires.candidates c.cut.invariant (let at = (goal.at.cut-preserved c).Joined-found-most-2 in turn-found c.requires.loaded c.requires.candidates c.cut.invariant c.loop-child.invariant (over at) (seen at) c.if-found-floor.false) c.if-weight-uncut.false c.wide-at-in-cut.ensures
 
 pub returns-then-weight-uncut : goal.returns-then-weight-uncut
 returns-then-weight-uncut c =

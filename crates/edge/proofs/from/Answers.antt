@@ -20,3 +20,6 @@ pub returns : goal.returns
 returns c =
     let a = c.args in
     ap ties (part-behind a.list.now (3 * a.i)) ∙ ties-behind a.list.now a.i c.requires
+
+pub slice_bounds-result-start : goal.slice_bounds-result-start
+slice_bounds-result-start c = omega (arith, edges-length c.args.list.now, c.requires)

@@ -49,3 +49,6 @@ returns c =
     let b = put_back (count (goal.at.returns c).After-fill) (zeros (goal.at.returns c).After-fill) c.sort_arcs.new.ends in
     ends-accepted _ _ _ _ refl (sym c.index_refusal-code.ensures ∙ c.if-code-ne0.false)
     (rw b (sorted-index a.lists.proper (c.sort_arcs.auto.neighbours ∙ a.lists.room) (rw e at c.sort_arcs.ensures)))
+
+pub slice_bounds-sort_arcs-start : goal.slice_bounds-sort_arcs-start
+slice_bounds-sort_arcs-start c = omega (arith, full (goal.at.slice_bounds-sort_arcs-start c).After-fill)

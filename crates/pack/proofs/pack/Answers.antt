@@ -7,6 +7,7 @@ use Rattle.pack.specs.Lightest.{lightest}
 use Rattle.pack.specs.TournamentSteps.{Tournament}
 use Rattle.pack.proofs.Winners.{lightest-zeros, tournament-same, outdated}
 use Rattle.pack.proofs.Blocks.{Packs, packs-none, packs-length, packs-few, packs-all, packs-pass, packs-inside, packs-fits, packs-more}
+use Rattle.pack.proofs.pack.Goals.{then-wide-x, else-wide-x}
 use Rattle.pack.proofs.pack.Goals as goal
 
 pub loop-x-init : goal.loop-x-init
@@ -39,20 +40,18 @@ replay-best-requires c =
 
 pub loop-x-preserved : goal.loop-x-preserved
 loop-x-preserved c =
-    ⊎_elim
-    (λ w. (
-      packs-more c.requires.packable c.loop-x.invariant.0 c.loop-x-test.true (sym c.wide.ensures ∙ w.0.taken) c.loop-x.invariant.2 w.7 w.8,
-      tournament-same
-          w.8 w.9 w.5.ensures.0,
-      w.10 ∙ w.5.ensures.1 ∙ ap lightest (sym w.8),
-    ))
-    (λ w. (
-      packs-pass c.requires.packable c.loop-x.invariant.0 c.loop-x-test.true (λ e. w.0.left (c.wide.ensures ∙ e)) w.1 w.2,
-      tournament-same w.2 w.3
-          c.loop-x.invariant.1,
-      w.4 ∙ c.loop-x.invariant.2 ∙ ap lightest (sym w.2),
-    ))
-    c.if-wide-x.branch
+    elim c.if-wide-x.branch [
+      then-wide-x w ↦ (
+        packs-more c.requires.packable c.loop-x.invariant.0 c.loop-x-test.true (sym c.wide.ensures ∙ w.if-wide-x.true) c.loop-x.invariant.2 w.block-is w.loads-is,
+        tournament-same w.loads-is w.nodes-is w.replay-best.ensures.0,
+        w.best-is ∙ w.replay-best.ensures.1 ∙ ap lightest (sym w.loads-is),
+      )
+      | else-wide-x w ↦ (
+        packs-pass c.requires.packable c.loop-x.invariant.0 c.loop-x-test.true (λ e. w.if-wide-x.false (c.wide.ensures ∙ e)) w.block-is w.loads-is,
+        tournament-same w.loads-is w.nodes-is c.loop-x.invariant.1,
+        w.best-is ∙ c.loop-x.invariant.2 ∙ ap lightest (sym w.loads-is),
+      )
+    ]
 
 pub returns : goal.returns
 returns c = packs-all c.requires.packable c.loop-x.invariant.0 c.loop-x-test.false

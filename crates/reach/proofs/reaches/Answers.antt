@@ -41,8 +41,8 @@ count_overlaps-requires c =
     let (filed, content, marked) = c.fill_slots.ensures _ _ es (own-filed g f) (net-fileable (regrouped g f) l e) in
     let k = c.fill_slots.auto in
     record {
-  overlaps_len = (eo, k.1.1.1.0 ∙ l.entries, ep);
-  by_index = (_, filed, _, net-slotted (regrouped g f) l e k.1.1.1.1.1.0 (k.1.1.1.1.0 ∙ er) content marked);
+  overlaps_len = (eo, k.stops ∙ l.entries, ep);
+  by_index = (_, filed, _, net-slotted (regrouped g f) l e k.slots (k.first ∙ er) content marked);
 }
 pub copy-requires : goal.copy-requires
 copy-requires c =
@@ -56,7 +56,7 @@ sum_reaches-requires c =
     let e = slots-regrouped g f g m in
     let (filed, content, marked) = c.fill_slots.ensures _ _ es (own-filed g f) (net-fileable (regrouped g f) l e) in
     let k = c.fill_slots.auto in
-    let s = net-slotted (regrouped g f) l e k.1.1.1.1.1.0 (k.1.1.1.1.0 ∙ er) content marked in
+    let s = net-slotted (regrouped g f) l e k.slots (k.first ∙ er) content marked in
     let same = c.copy.ensures in record {
   summable = rw same (net-summable g);
   overlaps_len = c.count_overlaps.auto.overlaps ∙ eo;
@@ -71,5 +71,5 @@ returns c =
     let e = slots-regrouped g f h m in
     let (filed, content, marked) = c.fill_slots.ensures _ _ es (own-filed g f) (net-fileable (regrouped g f) l e) in
     let k = c.fill_slots.auto in
-    let s = net-slotted (regrouped g f) l e k.1.1.1.1.1.0 (k.1.1.1.1.0 ∙ er) content marked in
+    let s = net-slotted (regrouped g f) l e k.slots (k.first ∙ er) content marked in
     c.sum_reaches.ensures _ (rw c.copy.ensures (c.count_overlaps.ensures _ filed _ s)) ∙ reach-regrouped g f

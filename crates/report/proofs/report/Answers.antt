@@ -45,8 +45,7 @@ write_report-requires c =
     c.args.compared_weights.now) (work_of c.args.ends.now c.args.jump.now c.args.lower.now)) z).lengths in (
       write-ready _ _ _ _ (lent (written (division_of c.args.carried.now c.args.top.now c.args.block.now c.args.block_loads.now)
           c.args.edge_blocks.now c.args.reach.now c.args.block_count.now c.args.edges_taken.now) (net c.args.compared_parents.now
-          c.args.compared_weights.now) (work_of c.args.ends.now c.args.jump.now c.args.lower.now)) z c.compare.ensures (not-false _
-          c.if-not-compare.false),
+          c.args.compared_weights.now) (work_of c.args.ends.now c.args.jump.now c.args.lower.now)) z c.compare.ensures c.if-not-compare.false,
       l.taken,
       c.compare.auto.jump ∙ l.compared.jump,
     )
@@ -58,4 +57,4 @@ returns c =
     ends-accepted _ _ _ _ _
     (sym (c.report_early-code.ensures ∙ ap (report_early _ _ _ _) (c.wrong_lengths-wrong.ensures ∙ wrong-lengths _ _ _ _ _ _ _ _ _ _ _ _ _ _ _ _ _)) ∙ c.if-code-ne0.false)
     c.compare.ensures c.if-not-compare.false refl c.write_report.ensures
-    (same-room _ _ _ _ _ _ k.1.1.1.1.1.0 k.1.1.1.1.1.1.0 k.1.1.1.1.1.1.1.0)
+    (same-room _ _ _ _ _ _ k.ends k.jump k.lower)

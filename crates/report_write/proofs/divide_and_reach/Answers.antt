@@ -14,7 +14,7 @@ cut_and_pack-requires c =
     let k = c.reaches.auto in
     record {
   divisible = q.divisible;
-  fitting = fitting-kept q.division k.1.1.1.1.1.0 k.1.1.1.1.1.1.0 k.1.1.1.1.1.1.1.0;
+  fitting = fitting-kept q.division k.ends k.ancestor k.previous;
 }
 pub returns : goal.returns
 returns c =

@@ -5,7 +5,9 @@ use Rattle.run.proofs.Finished.{ends-refused, sizes-known, parts-runnable, limit
 use Rattle.run.proofs.run.Goals as goal
 
 pub returns-then-code-ne0 : goal.returns-then-code-ne0
-returns-then-code-ne0 c = ends-refused c.load-code.ensures c.if-code-ne0.true c.put_refused.ensures
+returns-then-code-ne0 c =
+    let e = ends-refused c.load-code.ensures c.if-code-ne0.true c.put_refused.ensures in
+    record { text_after = e.0; text_unchanged = e.1.0; upper_bound = e.1.1 }
 
 pub word_at-limit-requires : goal.word_at-limit-requires
 word_at-limit-requires c = omega (arith, (sizes-known c.load-code.ensures c.if-code-ne0.false).want)
@@ -39,4 +41,5 @@ divide-requires c =
 pub returns : goal.returns
 unfolding limit blocks
 returns c =
-    ends-accepted c.load-code.ensures c.if-code-ne0.false c.word_at-limit.ensures c.word_at-blocks.ensures c.divide.ensures
+    let e = ends-accepted c.load-code.ensures c.if-code-ne0.false c.word_at-limit.ensures c.word_at-blocks.ensures c.divide.ensures in
+    record { text_after = e.0; text_unchanged = e.1.0; upper_bound = e.1.1 }

@@ -4,6 +4,7 @@ use mathlib.Core.Logic.{⊎_elim}
 use Prim.Native.Nat.{◌-◌}
 use lib.ListN.{length, length-set, length-replicate}
 use Rattle.groups.proofs.Ranks.{Cutting, cutting-begin, cutting-done, cutting-loaded, cutting-children, step-root, step-child, hand-inside, hand-fits}
+use Rattle.groups.proofs.cutting.cut.Goals.{then-parent, else-parent}
 use Rattle.groups.proofs.cutting.cut.Goals as goal
 
 pub loop-x-init : goal.loop-x-init
@@ -121,11 +122,12 @@ bounds-carried-above-else-parent c =
 
 pub loop-x-preserved : goal.loop-x-preserved
 loop-x-preserved c =
-    ⊎_elim
-    (λ v. step-root c.requires.divisible c.loop-x.invariant c.loop-x-test.true c.lighten-kept.ensures c.lighten-kept.auto.link c.lighten-kept.auto.next v.0.taken v.1 v.2 v.3)
-    (λ v. step-child c.requires.divisible c.loop-x.invariant c.loop-x-test.true c.lighten-kept.ensures c.lighten-kept.auto.link
-    c.lighten-kept.auto.next v.1.ensures v.0.left v.4 v.5 v.6)
-    c.if-parent.branch
+    elim c.if-parent.branch [
+      then-parent w ↦ step-root c.requires.divisible c.loop-x.invariant c.loop-x-test.true c.lighten-kept.ensures c.lighten-kept.auto.link c.lighten-kept.auto.next
+          w.if-parent.true w.carried-is w.link-is w.next-is
+      | else-parent w ↦ step-child c.requires.divisible c.loop-x.invariant c.loop-x-test.true c.lighten-kept.ensures c.lighten-kept.auto.link c.lighten-kept.auto.next
+          w.wide-above.ensures w.if-parent.false w.carried-is w.link-is w.next-is
+    ]
 
 pub returns : goal.returns
 returns c = cutting-done c.requires.divisible c.loop-x.invariant c.loop-x-test.false

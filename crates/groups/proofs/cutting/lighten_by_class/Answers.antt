@@ -6,6 +6,7 @@ use lib.ListN.{length}
 use borrow.Author.Tests.{ltb-true, ltb-false}
 use Rattle.groups.proofs.Halving.{class-room}
 use Rattle.groups.proofs.Lightening.{Lighter, lighter-begin, lighter-small, lighter-skip, lighter-loaded, lighter-candidates, lighter-floor, lighter-trimmed, lightened}
+use Rattle.groups.proofs.cutting.lighten_by_class.Goals.{then-loop-class-test+else-limit-weight, else-loop-class-test}
 use Rattle.groups.proofs.cutting.lighten_by_class.Goals as goal
 
 pub file_children-requires : goal.file_children-requires
@@ -41,7 +42,7 @@ trim-left-requires c =
   loaded = lighter-loaded c.requires.loaded c.requires.children c.file_children.ensures c.loop-class.invariant c.file_children.auto.next;
   candidates = lighter-candidates
           c.requires.loaded c.requires.children c.file_children.ensures c.loop-class.invariant (c.loop-class.class - 1) (omega (arith, c.loop-class-test.true))
-          (omega (arith, c.file_children.auto.heads, c.requires.unfiled.some)) c.floor_of.ensures (ltb-true _ _ c.if-limit-weight.true);
+          (omega (arith, c.file_children.auto.heads, c.requires.unfiled.some)) c.floor_of.ensures c.if-limit-weight.true;
 }
 pub loop-class-preserved-then-heads-class : goal.loop-class-preserved-then-heads-class
 loop-class-preserved-then-heads-class c =
@@ -52,7 +53,7 @@ loop-class-preserved-then-heads-class c =
 pub loop-class-preserved : goal.loop-class-preserved
 loop-class-preserved c =
     lighter-skip c.requires.loaded c.requires.children c.file_children.ensures c.loop-class.invariant (c.loop-class.class - 1) (omega (arith, c.loop-class-test.true))
-    (omega (arith, c.file_children.auto.heads, c.requires.unfiled.some)) (ltb-true _ _ c.if-limit-weight.true) c.if-heads-class.false
+    (omega (arith, c.file_children.auto.heads, c.requires.unfiled.some)) c.if-limit-weight.true c.if-heads-class.false
 
 pub overflow_add-result : goal.overflow_add-result
 overflow_add-result c =
@@ -60,4 +61,7 @@ overflow_add-result c =
 
 pub returns : goal.returns
 returns c =
-    lightened c.requires.loaded c.requires.children c.file_children.ensures c.loop-class.invariant (⊎_elim (λ w. inr (ltb-false _ _ w.1.left)) (λ w. inl (omega (arith, w.left))) c.loop-class-test.branch)
+    lightened c.requires.loaded c.requires.children c.file_children.ensures c.loop-class.invariant (elim c.loop-class-test.branch [
+      then-loop-class-test+else-limit-weight w ↦ inr w.if-limit-weight.false
+      | else-loop-class-test w ↦ inl (omega (arith, w.loop-class-test.false))
+    ])

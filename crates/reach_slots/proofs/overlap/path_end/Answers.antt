@@ -53,7 +53,7 @@ returns-then-k-read_at c =
     (st.jumps, stands-end (stands-next st c.read_at.ensures c.loop-ancestor-test.true c.read_at-q.ensures) c.read_at-in-loop-ancestor.ensures c.if-k-read_at.true)
 
 pub read_at-next-requires : goal.read_at-next-requires
-read_at-next-requires c = let h = inside (goal.at.read_at-next-requires c).In-loop-ancestor in omega arith
+read_at-next-requires c = let h = inside (goal.at.read_at-next-requires c).After-read_at-q in omega arith
 
 pub loop-ancestor-smaller : goal.loop-ancestor-smaller
 loop-ancestor-smaller c =

@@ -9,7 +9,7 @@ use Rattle.game.specs.Edge.{Edge}
 use Rattle.reach_slots.specs.Visit.{Slotted, Empty}
 use Rattle.reach_slots.proofs.Turns.{Slot, slot-mark, slot-first, slot-other}
 use Rattle.reach_slots.proofs.Visiting.{Counting, counting-first, slot-inside, path-under, overlap-fits, counting-step, visited-last}
-use Rattle.reach_slots.proofs.overlap.visit.Goals.{Joined-k-stop}
+use Rattle.reach_slots.proofs.overlap.visit.Goals.{Joined-k-stop, else-k-stop, then-k-stop}
 use Rattle.reach_slots.proofs.overlap.visit.Goals as goal
 
 -- the edge in slot k, whichever way its ends were read
@@ -25,10 +25,10 @@ slot c d =
     let l = d.slotted.layout in
     let m = d.slotted.marked in
     let h = c.loop-k-test.true in
-    ⊎_elim
-    (λ a. slot-first l h m d.turn a.0.taken c.read_at-y.ensures a.1.ensures a.2.ensures a.3 a.4 a.5)
-    (λ a. slot-other l h m d.turn a.0.left c.read_at-y.ensures a.1 a.2 a.3)
-    c.if-k-stop.branch
+    elim c.if-k-stop.branch [
+      then-k-stop w ↦ slot-first l h m d.turn w.if-k-stop.true c.read_at-y.ensures w.read_at.ensures w.read_at-y-then-k-stop.ensures w.u-is w.stop-is w.y-is
+      | else-k-stop w ↦ slot-other l h m d.turn w.if-k-stop.false c.read_at-y.ensures w.u-is w.stop-is w.y-is
+    ]
 
 pub loop-k-init : goal.loop-k-init
 loop-k-init c = (search rules, refl, refl, refl, λ p es filed stops g e. counting-first g e)
@@ -58,27 +58,28 @@ pub read_at-v-requires : goal.read_at-v-requires
 read_at-v-requires c =
     let (p, es, filed, stops, g, e) = c.requires in
     let d = c.loop-k.invariant.4 p es filed stops g e in
-    slot-inside d (slot (goal.at.read_at-v-requires c).After-read_at-y d)
+    slot-inside d (slot (goal.at.read_at-v-requires c).Joined-k-stop d)
 
 pub path_end-r-requires : goal.path_end-r-requires
 path_end-r-requires c =
     let (p, es, filed, stops, g, e) = c.requires in
     let d = c.loop-k.invariant.4 p es filed stops g e in
-    (p, d.jumps, path-under d (slot (goal.at.path_end-r-requires c).After-read_at-y d) c.read_at-v.ensures)
+    (p, d.jumps, path-under d (slot (goal.at.path_end-r-requires c).Joined-k-stop d) c.read_at-v.ensures)
 
 pub add_at-requires : goal.add_at-requires
 add_at-requires c =
     let (p, es, filed, stops, g, e) = c.requires in
     let d = c.loop-k.invariant.4 p es filed stops g e in
-    let s = slot (goal.at.add_at-requires c).After-read_at-y d in
+    let s = slot (goal.at.add_at-requires c).Joined-k-stop d in
     let rv = c.read_at-v.ensures in
-    overlap-fits d s rv (c.path_end-r.ensures p d.jumps (path-under d s rv)).1 c.loop-k-test.true
+    let both = overlap-fits d s rv (c.path_end-r.ensures p d.jumps (path-under d s rv)).1 c.loop-k-test.true in
+    record { i_in_bounds = both.0; v_bound = both.1 }
 
 pub write_at-requires : goal.write_at-requires
 write_at-requires c =
     let (p, es, filed, stops, g, e) = c.requires in
     let d = c.loop-k.invariant.4 p es filed stops g e in
-    slot-inside d (slot (goal.at.write_at-requires c).After-read_at-y d)
+    slot-inside d (slot (goal.at.write_at-requires c).Joined-k-stop d)
 
 pub overflow_add-k : goal.overflow_add-k
 overflow_add-k c =
@@ -98,14 +99,14 @@ loop-k-preserved c =
     let rv = c.read_at-v.ensures in
     let (p, es, filed, stops, g, e) = c.requires in
     let d = inv p es filed stops g e in
-    let js = (c.path_end-r.ensures p d.jumps (path-under d (slot (goal.at.loop-k-preserved c).After-read_at-y d) rv)).0 in (
+    let js = (c.path_end-r.ensures p d.jumps (path-under d (slot (goal.at.loop-k-preserved c).Joined-k-stop d) rv)).0 in (
       search rules,
       js.entries ∙ sym d.jumps.entries ∙ a,
       ap length c.write_at.ensures ∙ simp length-set b,
       ap length c.add_at.ensures ∙ simp length-set o,
       λ p es filed stops g e.
           let d = inv p es filed stops g e in
-          let s = slot (goal.at.loop-k-preserved c).After-read_at-y d in
+          let s = slot (goal.at.loop-k-preserved c).Joined-k-stop d in
           let (js, f) = c.path_end-r.ensures p d.jumps (path-under d s rv) in
           counting-step d s rv f js c.add_at.ensures c.write_at.ensures,
     )
