@@ -79,7 +79,7 @@ module _ {ends lower upward block : List ℕ} {k : ℕ} {counts₀ pending₀ st
     up_is = t.ahead y (omega arith)
 
     pub turn_up : get_or taken y 0 ≤ max_edges
-    turn_up = omega (arith, up_is, b.few-upward y h)
+    turn_up = omega (arith, up_is, b.few_upward y h)
 
     module _ {stamps' : List ℕ} {r : Met} (counts-so : Counts k block y (get_or taken y 0) (part at end lower) stamps' r) where
       s : Counts k block y (get_or upward y 0) (part at end lower) stamps' r

@@ -119,7 +119,7 @@ module _ {n : ℕ} (es : List Edge) (proper : Proper n es) (block : List ℕ) (y
         where
           waits-so : Waiting block y k inside [] ds false read
           waits-so = record {
-            own-met = refl;
+            own_met = refl;
             small = h;
             rest = rw (own-some w (get_or block y 0) d) at front-full;
             no_fewer = λ i l f. front-open i l (rw (own-some w (get_or block y 0) d) f);

@@ -169,7 +169,7 @@ module _ {es : List Edge} {block pending₀ taken₀ : List ℕ} (g : Sweepable 
       pub sweep-first : {low : ℕ} → low ≡ lower (a ─ b) → Passable a low block pending taken
       sweep-first e = record {
         inside = inside.0;
-        low-inside = rw e low-inside;
+        low_inside = rw e low-inside;
         pending_long = t.pending_long;
         taken_long = t.taken_long;
         small = fits-at inside.0 at_first;
@@ -182,7 +182,7 @@ module _ {es : List Edge} {block pending₀ taken₀ : List ℕ} (g : Sweepable 
         pub sweep-second : Passable b low block p₁ t₁
         sweep-second = record {
           inside = inside.1;
-          low-inside = rw e low-inside;
+          low_inside = rw e low-inside;
           pending_long = (pass-long s₁).0 ∙ t.pending_long;
           taken_long = (pass-long s₁).1 ∙ t.taken_long;
           small = let o = pass-other s₁ (λ q. inside.2 (sym q)) in rw (o.0, o.1) (fits-at inside.1 at_second);

@@ -53,7 +53,7 @@ module _ (block : List ℕ) (y k : ℕ) (inside : get_or block y 0 < k) where
 
   -- Some blocks are met. With y's own taken as met, r of the edges that lead down meet the rest, and no fewer do.
   pub record Waiting (met : List ℕ) (ds : List ℕ) (o : Bool) (r : ℕ) : Type 0 where
-    pub own-met : member (get_or block y 0) met ≡ o
+    pub own_met : member (get_or block y 0) met ≡ o
     pub small : r < unmet
     pub rest : Full k ((get_or block y 0 ∷ met) ++ take r ds)
     pub no_fewer : (i : ℕ) → i < r → Full k ((get_or block y 0 ∷ met) ++ take i ds) → ⊥
@@ -68,7 +68,7 @@ module _ (block : List ℕ) (y k : ℕ) (inside : get_or block y 0 < k) where
     -- then something is waited for
     still : waiting (code o r) ≡ 1
     unfolding own
-    still = code-some o r (λ a e. w.some (full-within (λ j m. ⊎_elim (λ (q : j ≡ get_or block y 0). rw q (member-in (get_or block y 0) met (w.own-met ∙ a))) (λ t. t) (Memᴰ.cases_cons m)) (no_more e)))
+    still = code-some o r (λ a e. w.some (full-within (λ j m. ⊎_elim (λ (q : j ≡ get_or block y 0). rw q (member-in (get_or block y 0) met (w.own_met ∙ a))) (λ t. t) (Memᴰ.cases_cons m)) (no_more e)))
 
     -- an edge that leads up
     up-last : Full k (own ∷ met) → r ≡ 0
@@ -78,7 +78,7 @@ module _ (block : List ℕ) (y k : ℕ) (inside : get_or block y 0 < k) where
     up_more : (Full k (own ∷ met) → ⊥) → Waiting (own ∷ met) ds true r
     unfolding own member
     up_more f = record {
-      own-met = or_left (eqb (get_or block y 0) (get_or block y 0)) (member (get_or block y 0) met) (eq-eqb (get_or block y 0) (get_or block y 0) refl);
+      own_met = or_left (eqb (get_or block y 0) (get_or block y 0)) (member (get_or block y 0) met) (eq-eqb (get_or block y 0) (get_or block y 0) refl);
       small = w.small;
       rest = full-within (λ j m. Memᴰ.tail m) w.rest;
       no_fewer = λ i h g. w.no_fewer i h (full-within (λ j m. ⊎_elim (λ q. Memᴰ.head q) (λ t. t) (Memᴰ.cases_cons m)) g);
@@ -91,7 +91,7 @@ module _ (block : List ℕ) (y k : ℕ) (inside : get_or block y 0 < k) where
     unfolding own
     own-now f =
         ⊎_elim (λ (q : get_or block y 0 ≡ b). or_right o (eqb (get_or block y 0) b) (eq-eqb (get_or block y 0) b q))
-        (λ t. or_left o (eqb (get_or block y 0) b) (sym w.own-met ∙ in-member t))
+        (λ t. or_left o (eqb (get_or block y 0) b) (sym w.own_met ∙ in-member t))
         (Memᴰ.cases_cons (f.each (get_or block y 0) inside))
 
     down-last : Full k (b ∷ met) → code (o || eqb own b) (r - 1) ≡ 0
@@ -104,7 +104,7 @@ module _ (block : List ℕ) (y k : ℕ) (inside : get_or block y 0 < k) where
     down-more : (Full k (b ∷ met) → ⊥) → Waiting (b ∷ met) ds (o || eqb own b) (r - 1)
     unfolding own member
     down-more f = record {
-      own-met = ap (λ (t : Bool). eqb (get_or block y 0) b || t) w.own-met ∙ turned (eqb (get_or block y 0) b) o;
+      own_met = ap (λ (t : Bool). eqb (get_or block y 0) b || t) w.own_met ∙ turned (eqb (get_or block y 0) b) o;
       small = omega (arith, w.small);
       rest = later r w.rest;
       no_fewer = λ i h g. w.no_fewer (suc i) (omega arith) (full-within (λ j m. from_front (get_or block y 0 ∷ met) b (take i ds) j (exchange (get_or block y 0) b (met ++ take i ds) j m)) g);

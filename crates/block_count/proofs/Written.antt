@@ -60,9 +60,9 @@ module _ {es : List Edge} {upward block : List ℕ} {k : ℕ} {ends lower counts
   count-ready {all} {stamps} e q = record {
     buckets = filed-consecutive c.filed c.few;
     neighbours = λ y i h l. omega (arith, filed-inside c.filed (y + 1) i (omega (arith, long)) (omega (arith, c.filed.sorted.end_at y (omega (arith, long)))), long);
-    short = λ y h. omega (arith, c.filed.sorted.end_at y (omega (arith, long)), below-le (end_of true) (y + 1) es, c.few-edges);
+    short = λ y h. omega (arith, c.filed.sorted.end_at y (omega (arith, long)), below-le (end_of true) (y + 1) es, c.few_edges);
     counted = upward-long;
-    few-upward = λ y h. omega (arith, upward-is y (omega (arith, long)), few-upward y, c.few-edges);
+    few_upward = λ y h. omega (arith, upward-is y (omega (arith, long)), few-upward y, c.few_edges);
     blocked = sym long;
     blocks = λ x h. c.blocks x (omega (arith, long));
     counts_long = c.counts_long ∙ sym long;
@@ -87,7 +87,7 @@ module _ {es : List Edge} {upward block : List ℕ} {k : ℕ} {ends lower counts
         (b.each y (omega (arith, long))))
 
     takes : (y : ℕ) → y < length block → get_or taken' y 0 + waits block y (get_or pending' y 0) es ≡ edges_taken_of k block es y
-    takes y h = counted-taken es c.filed.proper block y k (λ u l. c.blocks u (omega arith)) (at y h) (omega (arith, (at y h).met.within, few-lower y, c.few-edges))
+    takes y h = counted-taken es c.filed.proper block y k (λ u l. c.blocks u (omega arith)) (at y h) (omega (arith, (at y h).met.within, few-lower y, c.few_edges))
 
     -- no vertex takes more edges than there are
     few-taken : (y : ℕ) → y < length block → edges_taken_of k block es y ≤ length es + length es
@@ -108,7 +108,7 @@ module _ {es : List Edge} {upward block : List ℕ} {k : ℕ} {ends lower counts
       proper = c.filed.proper;
       pending_long = m ∙ c.pending_long;
       taken_long = l ∙ upward-long ∙ long;
-      small = λ y h. omega (arith, takes y h, few-taken y h, c.few-edges);
+      small = λ y h. omega (arith, takes y h, few-taken y h, c.few_edges);
     }
 
     pub all-written : length counts' ≡ length counts → {taken'' : List ℕ} → length taken'' ≡ length upward → Swept es block pending' taken' taken'' → Writes es block k counts' taken''

@@ -73,7 +73,7 @@ pub record Bucketed (ends lower upward block : List ℕ) (k : ℕ) (counts pendi
   pub neighbours : (y i : ℕ) → y < length ends → i < get_or ends y 0 → get_or lower i 0 < length ends
   pub short : (y : ℕ) → y < length ends → get_or ends y 0 ≤ max_edges
   pub counted : length upward ≡ length ends
-  pub few-upward : (y : ℕ) → y < length ends → get_or upward y 0 ≤ max_edges
+  pub few_upward : (y : ℕ) → y < length ends → get_or upward y 0 ≤ max_edges
   pub blocked : length block ≡ length ends
   pub blocks : (x : ℕ) → x < length ends → get_or block x 0 < k
   pub counts_long : length counts ≡ length ends
@@ -90,7 +90,7 @@ pub record Counted (k : ℕ) (ends lower upward block counts taken pending : Lis
 -- each vertex, and tables that fit.
 pub record Countable (es : List Edge) (upward block : List ℕ) (k : ℕ) (ends lower counts pending : List ℕ) : Type 0 where
   pub few : length block ≤ max_vertices
-  pub few-edges : length es ≤ max_edges
+  pub few_edges : length es ≤ max_edges
   pub filed : Filed (length block) es ends lower
   pub counted : upward ≡ lower_counts (length block) es
   pub some : 0 < k

@@ -35,7 +35,7 @@ waits block x pending (e ∷ es) =
 -- What taking an edge at an end is given, and what it does.
 pub record Passable (x low : ℕ) (block pending taken : List ℕ) : Type 0 where
   pub inside : x < length block
-  pub low-inside : low < length block
+  pub low_inside : low < length block
   pub pending_long : length pending ≡ length block
   pub taken_long : length taken ≡ length block
   pub small : get_or taken x 0 + waiting (get_or pending x 0) < 2 ^ 32

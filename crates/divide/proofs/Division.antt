@@ -51,11 +51,11 @@ module _ {p w : List ℕ} {B : ℕ} (d : Divisible p w B) (k : ℕ) (some : 1 �
   division : Division (net p w) B k (divided (net p w) B k)
   unfolding weight_at
   division = record {
-    loads-sum = block-loads-sum d k some;
-    loads-even = largest-bound d k some;
+    loads_sum = block-loads-sum d k some;
+    loads_even = largest-bound d k some;
     load = λ j h. block-load d k some j h;
     group = λ t h e. group_at t ∙ group-carried d t h (sym (top-entry t h) ∙ e) ∙ ap (λ (c : List ℕ). get_or c t 0) (sym carried-are);
-    group-fits = λ t h. rw carried-are (carried-fits (sound-true p d.known) (omega (arith, d.few)) w B d.light t h);
+    group_fits = λ t h. rw carried-are (carried-fits (sound-true p d.known) (omega (arith, d.few)) w B d.light t h);
   }
 
 -- every accepted division

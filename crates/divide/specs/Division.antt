@@ -16,9 +16,9 @@ weight_at of table v =
     sum (map (λ (x : ℕ). get_or of.weights x 0) (filtered (λ (x : ℕ). eqb (get_or table x 0) v) (tabulate (length of.parents) (λ (x : ℕ). x))))
 
 pub record Division (of : Net) (B k : ℕ) (its : DivisionTables) : Type 0 where
-  pub loads-sum : sum its.block_loads ≡ total of
-  pub loads-even : k * largest its.block_loads ≤ total of + (k - 1) * B
+  pub loads_sum : sum its.block_loads ≡ total of
+  pub loads_even : k * largest its.block_loads ≤ total of + (k - 1) * B
   pub load : (j : ℕ) → j < k → get_or its.block_loads j 0 ≡ weight_at of its.block j
   -- the top of a group is its own top
   pub group : (t : ℕ) → t < length of.parents → get_or its.top t 0 ≡ t → weight_at of its.top t ≡ get_or its.carried t 0
-  pub group-fits : (t : ℕ) → t < length of.parents → get_or its.carried t 0 ≤ B
+  pub group_fits : (t : ℕ) → t < length of.parents → get_or its.carried t 0 ≤ B

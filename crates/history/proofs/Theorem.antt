@@ -44,7 +44,7 @@ net-holds : {net : Net} {ts : List Tie} → NetOf net ts → NetHolds net ts
 net-holds {net} {ts} g = record {
   is = of ts g.is;
   any_order = λ us s. of us (g.is ∙ net-order g.vertices s);
-  volume-bound = volume-bound net g.count.few g.proper (net-parents g);
+  volume_bound = volume-bound net g.count.few g.proper (net-parents g);
   reports = λ B k xs tables e. reports net ts B k xs tables (of ts g.is) e;
   separates = λ a b xs tables e. separated net ts a b xs tables (of ts g.is) e;
 }

@@ -50,7 +50,7 @@ pub record NetHolds (net : Net) (ts : List Tie) : Type 0 where
   -- in any other order, and with the ends of any tie turned
   pub any_order : (us : List Tie) → SameTies ts us → net ≡ net_of (length net.parents) us
   -- for every B and k, so for those too that Divide accepts
-  pub volume-bound : (B k : ℕ) → volume_of net (without_rows ts) B k ≤ bound_of net (without_rows ts) B k
+  pub volume_bound : (B k : ℕ) → volume_of net (without_rows ts) B k ≤ bound_of net (without_rows ts) B k
   -- lent any numbers that read as the list, and tables of any lengths, holding anything
   pub reports : (B k : ℕ) (xs : List ℕ) (tables : Lent) → ties xs ≡ ts → Reports net (without_rows ts) B k (report_outcome net B k xs tables).verdict
   pub separates : (a b : ℕ) (xs : List ℕ) (tables : SeparateTables) → ties xs ≡ ts → Separated net (without_rows ts) a b (separate_outcome net a b xs tables)

@@ -47,7 +47,7 @@ module _ {p w bc en lo eb re : List ℕ} {es : List Edge} {B : ℕ} {was : Divis
   filed-so = subst (λ (n : ℕ). Filed n es en lo) (sym ends-long) q.filed
 
   pub lower-countable : {ta : List ℕ} → length ta ≡ length p → LowerCountable es en lo ta
-  lower-countable e = record { filed = filed-so; width = e ∙ sym ends-long; some = omega (arith, ends-long, q.some); few-edges = q.own.few }
+  lower-countable e = record { filed = filed-so; width = e ∙ sym ends-long; some = omega (arith, ends-long, q.some); few_edges = q.own.few }
 
   pub lower-counted : {ta : List ℕ} → ((es : List Edge) → Filed (length en) es en lo → ta ≡ tabulate (length en) (ending false es)) → ta ≡ lower_counts (length p) es
   unfolding lower_counts lower_count with_key end_of
@@ -92,7 +92,7 @@ module _ {p w c t b l eb re bc en lo : List ℕ} {es : List Edge} {B : ℕ} (q :
   unfolding of k
   block-countable {m} e f g h = record {
     few = omega (arith, block-long, q.own.vertices);
-    few-edges = q.own.few;
+    few_edges = q.own.few;
     filed = subst (λ (n : ℕ). Filed n es en lo) (sym block-long) q.filed;
     counted = g ∙ ap (λ (n : ℕ). lower_counts n es) (sym block-long);
     some = omega (arith, q.division.some);

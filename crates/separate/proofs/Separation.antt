@@ -74,7 +74,7 @@ module _ {n : ℕ} {es : List Edge} (w : Walkable (forest n es)) (u : n ≤ abse
       record {
         above = λ y m. common-both (forest n es) a b m;
         all = λ y m k. both-common (forest n es) a b m k;
-        lowest-first = rising-entries (common-rising w a b);
+        lowest_first = rising-entries (common-rising w a b);
         lowest_listed = lowest-first (common_ancestors (forest n es) a b);
         none_listed = lowest-nothing (common_ancestors (forest n es) a b);
         apart_none = λ d. nothing-lowest (empty-list (common_ancestors (forest n es) a b) (λ y m. d (one y m)));

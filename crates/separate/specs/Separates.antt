@@ -31,7 +31,7 @@ pub record Separates (p : List ℕ) (es : List Edge) (a b : ℕ) (lowest : Lowes
   -- the vertices above both, and no other
   pub above : (y : ℕ) → Memᴰ y ys → Memᴰ y (ancestors p a) × Memᴰ y (ancestors p b)
   pub all : (y : ℕ) → Memᴰ y (ancestors p a) → Memᴰ y (ancestors p b) → Memᴰ y ys
-  pub lowest-first : (i : ℕ) → i + 1 < length ys → get_or ys i 0 < get_or ys (i + 1) 0
+  pub lowest_first : (i : ℕ) → i + 1 < length ys → get_or ys i 0 < get_or ys (i + 1) 0
   -- the lowest is the first of the list; none, of an empty list
   pub lowest_listed : (y : ℕ) → lowest ≡ Vertex y → (0 < length ys) × (get_or ys 0 0 ≡ y)
   pub none_listed : lowest ≡ Nothing → ys ≡ []
