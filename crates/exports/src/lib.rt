@@ -1,8 +1,7 @@
-// The interface for C and for the languages that call C (include/niqastul.h): each call under a name of its own, with
-// its answer as a number, 0 if it was accepted. A table passes as a pointer and a length. Nothing is checked at this boundary, so no
-// function here asks anything of its caller that its types do not say: tables are readable or writable over their length, and one
-// that is written overlaps no other.
+// The calls as C takes them, which `exports_c` hands to C under the same names: each with its answer as a number, 0 if it was accepted.
+// No function here asks anything of its caller that its types do not say.
 #![tactic(auto)]
+
 ghost use Rattle.std.specs.Prelude.{◌≡◌};
 ghost use Rattle.game.specs.Net.{net};
 ghost use Rattle.growth.specs.Work.{with_work, work_of};
@@ -23,21 +22,14 @@ ghost use Rattle.cells.specs.Returned.{returned, handed, filled_cells, cells, se
 
 use cells::{hand_place, hand_rank, hand_separator, hand_totals};
 
-#[unsafe(no_mangle)]
-pub extern "C" fn niqastul_relabel(
-    order: &[u32],
-    edges: &[u32],
-    out: &mut [u32],
-    inverse: &mut [u32],
-) -> u32
+pub fn niqastul_relabel(order: &[u32], edges: &[u32], out: &mut [u32], inverse: &mut [u32]) -> u32
     ensures { returned result (relabel_tables out.new inverse.new)
         ≡ handed (relabel_outcome order.now edges.now (relabel_tables out.old inverse.old)) }
 {
     refusal::code(relabel::relabel(order, edges, out, inverse))
 }
 
-#[unsafe(no_mangle)]
-pub extern "C" fn niqastul_start(parents: &mut [u32], weights: &mut [u32]) -> u32
+pub fn niqastul_start(parents: &mut [u32], weights: &mut [u32]) -> u32
     ensures { returned result (net parents.new weights.new)
         ≡ handed (start_outcome (net parents.old weights.old)) }
 {
@@ -45,8 +37,7 @@ pub extern "C" fn niqastul_start(parents: &mut [u32], weights: &mut [u32]) -> u3
 }
 
 // Of an addition and a join the lowest vertex that moved goes into the cell, absent if none did.
-#[unsafe(no_mangle)]
-pub extern "C" fn niqastul_add(
+pub fn niqastul_add(
     parents: &mut [u32],
     weights: &mut [u32],
     edges: &[u32],
@@ -62,8 +53,7 @@ pub extern "C" fn niqastul_add(
     hand_rank(answer, moved)
 }
 
-#[unsafe(no_mangle)]
-pub extern "C" fn niqastul_join(
+pub fn niqastul_join(
     parents: &mut [u32],
     weights: &mut [u32],
     other_parents: &[u32],
@@ -88,24 +78,21 @@ pub extern "C" fn niqastul_join(
     hand_rank(answer, moved)
 }
 
-#[unsafe(no_mangle)]
-pub extern "C" fn niqastul_save(parents: &[u32], weights: &[u32], bytes: &mut [u8]) -> u32
+pub fn niqastul_save(parents: &[u32], weights: &[u32], bytes: &mut [u8]) -> u32
     ensures { returned result bytes.new
         ≡ handed (save_outcome (net parents.now weights.now) bytes.old) }
 {
     refusal::code(linkfile::save(parents, weights, bytes))
 }
 
-#[unsafe(no_mangle)]
-pub extern "C" fn niqastul_read(parents: &mut [u32], weights: &mut [u32], bytes: &[u8]) -> u32
+pub fn niqastul_read(parents: &mut [u32], weights: &mut [u32], bytes: &[u8]) -> u32
     ensures { returned result (net parents.new weights.new)
         ≡ handed (read_outcome (net parents.old weights.old) bytes.now) }
 {
     refusal::code(linkfile::read(parents, weights, bytes))
 }
 
-#[unsafe(no_mangle)]
-pub extern "C" fn niqastul_divide(
+pub fn niqastul_divide(
     parents: &[u32],
     weights: &[u32],
     limit: u32,
@@ -131,8 +118,7 @@ pub extern "C" fn niqastul_divide(
 }
 
 // The figures of an accepted report go into the four cells; a refused one leaves the cells as they were.
-#[unsafe(no_mangle)]
-pub extern "C" fn niqastul_report(
+pub fn niqastul_report(
     parents: &[u32],
     weights: &[u32],
     limit: u32,
@@ -189,8 +175,7 @@ pub extern "C" fn niqastul_report(
     hand_totals(answer, bound, volume, quotient, remainder)
 }
 
-#[unsafe(no_mangle)]
-pub extern "C" fn niqastul_index(
+pub fn niqastul_index(
     old_edges: &[u32],
     added: &[u32],
     starts: &mut [u32],
@@ -203,8 +188,7 @@ pub extern "C" fn niqastul_index(
 }
 
 // The part of the index that a query hands back is told by its place and its length.
-#[unsafe(no_mangle)]
-pub extern "C" fn niqastul_query(
+pub fn niqastul_query(
     starts: &[u32],
     neighbours: &[u32],
     rank: u32,
@@ -219,8 +203,7 @@ pub extern "C" fn niqastul_query(
 
 // How many vertices are above both, and the lowest of them, go into the two cells, absent for none; a refused call leaves the cells as they
 // were.
-#[unsafe(no_mangle)]
-pub extern "C" fn niqastul_separate(
+pub fn niqastul_separate(
     parents: &[u32],
     weights: &[u32],
     one: u32,
