@@ -1,5 +1,5 @@
-"""The calls as the header declares them, as crates/exports proves them, as Rust calls them and as the library has them:
-the same names, and the same parameters in the same order, one by one."""
+"""The calls as the header declares them, as crates/exports_c proves them, as Rust calls them and as the library has
+them: the same names, and the same parameters in the same order, one by one."""
 
 import re
 import subprocess
@@ -8,7 +8,7 @@ from support import ROOT, header
 from support.harness import test
 from support.library import ORACLES, PATH
 
-RATTLE = ROOT / "crates" / "exports" / "src" / "lib.rt"
+RATTLE = ROOT / "crates" / "exports_c" / "src" / "lib.rt"
 RUST = ROOT / "bindings" / "rust" / "src" / "tables.rs"
 
 # the types of Rattle and of Rust's declarations as C has them
@@ -33,7 +33,7 @@ def functions(text, start):
 
 
 def of_rattle(text):
-    return functions(text, r'#\[no_mangle\]\s+pub extern "C"')
+    return functions(text, r'#\[unsafe\(no_mangle\)\]\s+pub extern "C"')
 
 
 def of_rust(text):
