@@ -1,6 +1,7 @@
 // The call add. The tables are read first, then the list for its faults; a long list is counted by upper end and its rows are charged in
 // the same sweep, unless it is the first and its upper ends rise.
 #![tactic(auto)]
+
 ghost use Rattle.std.specs.Prelude.{◌≡◌, true};
 ghost use Rattle.game.specs.Net.{net};
 ghost use Rattle.growth.specs.Work.{with_work, work_of};

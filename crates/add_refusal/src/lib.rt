@@ -1,6 +1,7 @@
 // What adding is refused for: by the tables, which are read first, and then by the list. A list that is to be counted by upper end is
 // counted in the sweep that finds its faults, and its rows are charged in the same sweep.
 #![tactic(auto)]
+
 ghost use Rattle.std.specs.Prelude.{◌≡◌, true, ◌≤◌};
 ghost use Rattle.game.specs.Net.{net};
 ghost use Rattle.refusal.specs.Limits.{max_total};

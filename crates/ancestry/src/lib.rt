@@ -1,6 +1,7 @@
 // What two vertices of a forest have in common: the vertices above both, walked to by parents alone. A walk costs the two paths to their
 // roots, and no table of the whole forest.
 #![tactic(auto)]
+
 ghost use Rattle.std.specs.Prelude.{◌≡◌, ◌≢◌, ◌<◌, length};
 ghost use Rattle.game.specs.Game.{absent};
 ghost use Rattle.refusal.specs.Outcome.{ended};

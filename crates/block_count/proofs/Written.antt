@@ -8,7 +8,7 @@ use Prim.Native.Nat.{ℕ, zero, suc, ◌+◌, ◌-◌, ◌≤◌, ◌<◌}
 use native.Mathlib.Decide.{dec_lt}
 use native.Mathlib.Omega.{arith}
 use lib.ListN.{length, length-map, get_or, take, drop, replicate, length-replicate, get_or-replicate, get_or-eq_default}
-use Rattle.game.specs.Edge.{Edge, lower}
+use Rattle.game.specs.Edge.{Edge}
 use Rattle.game.proofs.Tables.{tabulate-length, tabulate-entry, tabulate-unique}
 use Rattle.bucket.specs.Ends.{end_of}
 use Rattle.bucket.specs.Filed.{lower_ends}

@@ -5,6 +5,7 @@
 // edges that lead up stand between the others the buckets do not tell; so where all blocks were met, and some edge leads up, the vertex
 // waits, and one pass over the list, which ends when none waits any more, tells when its count ended (waiting).
 #![tactic(auto)]
+
 mod counting;
 mod stamping;
 mod waiting;

@@ -1,6 +1,7 @@
 // A call's answer as C takes it: the number, 0 if it was accepted, is answered, and the values go to cells, which a refusal leaves as they
 // were.
 #![tactic(auto)]
+
 ghost use Rattle.std.specs.Prelude.{◌≡◌};
 ghost use Rattle.refusal.specs.Verdict.{number};
 ghost use Rattle.moved.specs.Moved.{moved_rank};

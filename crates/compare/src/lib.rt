@@ -1,6 +1,7 @@
 // A net compared with ties that are said to be its own: what the tables lent for it are refused for, the net of the ties grown into the
 // comparison tables, and whether that is the net.
 #![tactic(auto)]
+
 mod likeness;
 mod own;
 

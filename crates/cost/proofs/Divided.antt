@@ -1,4 +1,3 @@
-use Rattle.std.proofs.Common.{rules}
 -- The tables of a divided net, by their rules: tops of the groups that its cuts leave, and a block for each top.
 -- Assumes nothing.
 use mathlib.Core.Path.{◌≡◌, refl, sym, ap, ◌∙◌}

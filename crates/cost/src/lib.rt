@@ -1,6 +1,7 @@
 // What a division costs: the block of each edge, the bound and the volume of communication between the blocks, and beside them the even
 // share of a block.
 #![tactic(auto)]
+
 mod summing;
 
 ghost use Rattle.std.specs.Prelude.{◌≡◌, length};

@@ -1,4 +1,3 @@
-use Rattle.std.proofs.Common.{rules}
 -- Lists by rising rank: the ranks of a stretch, a list without one of its ranks, and the sum over a list.
 -- Assumes nothing.
 use mathlib.Core.Path.{◌≡◌, refl, sym, ap}

@@ -1,5 +1,6 @@
 // Children of one vertex cut off, the heaviest first, until what it carries fits.
 #![tactic(auto)]
+
 ghost use Rattle.std.specs.Prelude.{◌≡◌, cond, eqb};
 ghost use Rattle.cut.specs.Steps.{Loaded, Candidates, Trimmed};
 

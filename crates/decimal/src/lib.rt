@@ -1,5 +1,6 @@
 // Text written into a table of bytes: bytes, numbers in decimal, and byte strings, each from a place on. The answer is the place after it.
 #![tactic(auto)]
+
 ghost use Rattle.std.specs.Prelude.{◌≡◌, [], ◌∷◌, ◌+◌, ◌≤◌, ◌<◌, length};
 ghost use Rattle.decimal.specs.Decimal.{decimal};
 ghost use Rattle.decimal.specs.Put.{PutText};

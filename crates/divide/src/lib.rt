@@ -1,6 +1,7 @@
 // The call divide: a forest cut into groups of bounded weight, and the groups packed into blocks. The cutting rests only on the parent
 // and the weight of each vertex.
 #![tactic(auto)]
+
 ghost use Rattle.std.specs.Prelude.{◌≡◌, ◌||◌, length};
 ghost use Rattle.refusal.specs.Refusal.{wrong_length};
 ghost use Rattle.refusal.specs.Answer.{verdict};

@@ -1,6 +1,7 @@
 // Ties of a flat list, by their number in it: an edge's two ends, and its rows. This is the one place that knows how many numbers a tie
 // takes and where they stand.
 #![tactic(auto)]
+
 ghost use Rattle.std.specs.Prelude.{◌≡◌, ◌+◌, ◌*◌, ◌^◌, ◌≤◌, ◌<◌, length, get_or, set, drop};
 ghost use Rattle.game.specs.Edge.{edges as edges_of, ties as ties_of, ◌─◌, tie_of};
 ghost use Rattle.game.specs.Net.{charges as charges_of};

@@ -1,5 +1,6 @@
 // The files of a run: what they are refused for, and the order and the edges that they say.
 #![tactic(auto)]
+
 ghost use Rattle.std.specs.Prelude.{◌≡◌, [], ◌∷◌, ◌*◌, ◌/◌, ◌≤◌, length};
 ghost use Rattle.refusal.specs.Refusal.{first, given};
 ghost use Rattle.refusal.specs.DivisionLimits.{bad_limits};

@@ -3,7 +3,7 @@
 -- sum above 16,000,000", which Paper 6 of document 02 makes 96,000,000. The promise is on parents and weights: a net that has it is refused
 -- with 30 by no call.
 -- Assumes nothing.
-use Rattle.std.specs.Prelude.{◌≡◌, true, ℕ, ◌≤◌, ◌<◌, length}
+use Rattle.std.specs.Prelude.{◌≡◌, true, ◌≤◌, ◌<◌, length}
 use Rattle.game.specs.Tree.{sound as is_sound}
 use Rattle.game.specs.Net.{Net, total}
 use Rattle.refusal.specs.Limits.{max_vertices, max_total}

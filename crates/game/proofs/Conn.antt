@@ -4,11 +4,11 @@
 -- Assumes nothing.
 use mathlib.Core.Logic.{◌⊎◌, inl, inr, ⊎_elim}
 use mathlib.Core.List.Memᴰ
-use mathlib.Core.List.{List, ◌++◌, Memᴰ}
+use mathlib.Core.List.{List, ◌++◌}
 use Prim.Native.Nat.{ℕ, ◌≤◌, max}
 use native.Mathlib.Nat.{le_trans, le-max_left, le-max_right}
 use native.Mathlib.Omega.{arith}
-use Rattle.game.specs.Edge.{Edge, ◌─◌}
+use Rattle.game.specs.Edge.{Edge}
 use Rattle.game.specs.Graph.{Linked, forth, back}
 
 -- a walk from a in the graph g over vertices at most t

@@ -6,10 +6,9 @@ use mathlib.Core.Bool.{Bool, ◌||◌}
 use mathlib.Core.List.{List, [], ◌∷◌, Permᴰ}
 use Prim.Native.Nat.{ℕ, suc, ◌+◌}
 use native.Mathlib.Nat.{min_comm, add_left_comm}
-use lib.Dec.{eqb}
 use lib.ListN.{length}
 use Rattle.game.specs.Table.{some_entry}
-use Rattle.game.specs.Edge.{Edge, ◌─◌, lower, Tie, without_rows}
+use Rattle.game.specs.Edge.{Edge, ◌─◌, Tie, without_rows}
 use Rattle.game.specs.Game.{forest}
 use Rattle.game.specs.Graph.{turn, SameEntries, nil, keep, flip, swap, trans, Same, SameTies, Linked, Proper}
 use Rattle.game.specs.Net.{owner, weight, weights, net_of}

@@ -1,4 +1,3 @@
-use Rattle.std.proofs.Common.{rules}
 -- Tables made from a rule are read off by that rule; membership as a test and as a fact; sums and counts.
 -- Assumes nothing.
 use mathlib.Core.Path.{◌≡◌, refl, sym, ap, ◌∙◌}

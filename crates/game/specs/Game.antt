@@ -4,7 +4,7 @@
 -- neighbours of each other; the parent of x is the lowest of S, or none if S is empty."
 -- S is kept free of repeats, so that the game can be computed. Nothing here knows of any quicker way to the same forest.
 -- Assumes nothing.
-use Rattle.std.specs.Prelude.{Bool, true, false, not, ◌&&◌, cond, List, [], ◌∷◌, ◌++◌, map, ℕ, zero, suc, min, eqb, ltb}
+use Rattle.std.specs.Prelude.{Bool, not, ◌&&◌, cond, List, [], ◌∷◌, ◌++◌, map, ℕ, zero, suc, min, eqb, ltb}
 use Rattle.game.specs.Table.{tabulate, member}
 use Rattle.game.specs.Edge.{Edge, ◌─◌}
 

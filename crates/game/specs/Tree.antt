@@ -1,6 +1,6 @@
 -- What a table of parents says: ancestors, subtrees, links, and the rule that keeps a table sound.
 -- Assumes nothing.
-use Rattle.std.specs.Prelude.{Bool, true, false, ◌&&◌, ◌||◌, cond, List, [], ◌∷◌, ℕ, zero, suc, eqb, ltb, length, get_or}
+use Rattle.std.specs.Prelude.{Bool, true, ◌&&◌, ◌||◌, cond, List, [], ◌∷◌, ℕ, zero, suc, eqb, ltb, length, get_or}
 use Rattle.game.specs.Table.{member}
 use Rattle.game.specs.Edge.{Edge, ◌─◌}
 use Rattle.game.specs.Game.{absent}

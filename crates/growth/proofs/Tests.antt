@@ -7,7 +7,6 @@ use native.Mathlib.Omega.{arith}
 use lib.Dec.{ltb}
 use lib.ListN.{length}
 use borrow.Author.Tests.{lt-ltb, le-ltb}
-use Rattle.game.specs.Edge.{edges}
 use Rattle.game.specs.Net.{Net, total}
 use Rattle.refusal.specs.Limits.{max_total}
 use Rattle.refusal.specs.Refusal.{wrong_length}

@@ -1,5 +1,6 @@
 // Forests grown by union-find over edges that are filed. The caller lends the room.
 #![tactic(auto)]
+
 mod climbing;
 mod raising;
 mod work;

@@ -3,7 +3,7 @@
 -- A spent edge is written y–y: it joins nothing.
 -- Assumes nothing.
 use mathlib.Core.Path.{◌≡◌, refl, sym, subst, subst₂, ◌∙◌}
-use mathlib.Core.Logic.{◌≢◌, ◌⊎◌, ⊎_elim, by_cases}
+use mathlib.Core.Logic.{◌≢◌, ⊎_elim, by_cases}
 use mathlib.Core.List.Memᴰ
 use mathlib.Core.List.{List, [], ◌∷◌, Memᴰ}
 use Prim.Native.Nat.{ℕ, ◌≤◌, ◌<◌, max}
@@ -14,7 +14,7 @@ use Rattle.game.specs.Edge.{Edge, ◌─◌}
 use Rattle.game.specs.Game.{absent}
 use Rattle.game.specs.Tree.{links}
 use Rattle.game.proofs.Conn.{Conn, stay, Within, conn-step, conn-trans, conn-up, conn-sym, within-left}
-use Rattle.game.specs.Graph.{Linked, forth, back}
+use Rattle.game.specs.Graph.{Linked, forth}
 use Rattle.game.proofs.Within.{within-edges}
 use Rattle.game.proofs.Proper.{edge-left, edge-right}
 use Rattle.game.proofs.Links.{link-of, link-inv, link-set-old, link-set-new, link-set-other, link-set-inv}

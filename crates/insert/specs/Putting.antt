@@ -1,6 +1,6 @@
 -- What putting edges into a table one by one promises. No public contract cites this.
 -- Assumes nothing.
-use Rattle.std.specs.Prelude.{◌≡◌, true, List, [], ◌∷◌, ◌++◌, ℕ, ◌+◌, ◌≤◌, ◌<◌, length, drop}
+use Rattle.std.specs.Prelude.{◌≡◌, true, List, [], ◌∷◌, ◌++◌, ℕ, ◌≤◌, ◌<◌, length, drop}
 use Rattle.game.specs.Edge.{Edge, ◌─◌, edges}
 use Rattle.game.specs.Graph.{Proper}
 use Rattle.game.specs.Tree.{links, sound}

@@ -1,5 +1,6 @@
 // A list of edges taken into a net: put in edge by edge, by exchanges, or grown with the whole forest.
 #![tactic(auto)]
+
 mod extending;
 mod growing;
 mod inserting;

@@ -1,5 +1,6 @@
 // What joining is refused for, found by reading the tables of both nets.
 #![tactic(auto)]
+
 ghost use Rattle.std.specs.Prelude.{◌≡◌, ◌+◌, ◌<◌};
 ghost use Rattle.game.specs.Net.{net};
 ghost use Rattle.growth.specs.Work.{with_work, work_of};

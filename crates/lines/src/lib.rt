@@ -1,5 +1,6 @@
 // The text of a run, from a report's answer and its tables, or from the number of a refusal.
 #![tactic(auto)]
+
 mod fields;
 mod lines;
 

@@ -12,7 +12,6 @@ use lib.ListN.{length, get_or}
 use lib.Seq.{ext_get_or}
 use borrow.Author.Tests.{eq-eqb, ne_eqb}
 use Rattle.game.specs.Game.{absent}
-use Rattle.moved.specs.declared.Moved.{Moved}
 use Rattle.moved.specs.declared.Moved.TheVariants.{Lowest, Nothing}
 use Rattle.moved.specs.Moved.{moved_from}
 use Rattle.moved.specs.Steps.{moved_at, Differ}

@@ -1,6 +1,7 @@
 // Where a forest moved (document 02, Paper 2): it is seen where a vertex is linked to its parent, and is what adding and joining answer.
 // While they work, it is the number of a vertex, absent where none has moved.
 #![tactic(auto)]
+
 ghost use Rattle.std.specs.Prelude.{◌≡◌, ◌<◌, min, max, length, get_or, set};
 ghost use Rattle.refusal.specs.Verdict.{accepted as accepted_with};
 ghost use Rattle.moved.specs.Moved.{moved_rank};

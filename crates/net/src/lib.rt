@@ -1,6 +1,7 @@
 // A net, that is an elimination forest with a weight on each vertex: its type, its constants, and what damages it.
 // A net's tables are lent as two slices, parents and weights; its vertex count is the length of its parents.
 #![tactic(auto)]
+
 ghost use Rattle.std.specs.Prelude.{◌≡◌, ◌^◌, ◌≤◌, ◌<◌, length};
 ghost use Rattle.game.specs.Game.{absent};
 ghost use Rattle.game.specs.Table.{sum};

@@ -1,5 +1,6 @@
 // An elimination order: whether it is a permutation of the vertices, and its inverse.
 #![tactic(auto)]
+
 ghost use Rattle.std.specs.Prelude.{◌≡◌, false, ◌<◌, ◌≤◌, eqb, length};
 ghost use Rattle.refusal.specs.Limits.{max_vertices};
 ghost use Rattle.order.specs.Order.{bad_order, inverse_of};

@@ -1,5 +1,6 @@
 // Groups packed into blocks: by rising top, each into the lightest block so far, which a tournament of the blocks finds.
 #![tactic(auto)]
+
 mod tournament;
 
 ghost use Rattle.std.specs.Prelude.{◌≡◌, ℕ, ◌<◌, length, get_or, replicate};

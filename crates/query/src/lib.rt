@@ -1,6 +1,7 @@
 // The call query: the run of a vertex, looked up in an index of neighbours, as a part of the table that the caller lends. One pass tests
 // that the starts rise; the run itself is not read.
 #![tactic(auto)]
+
 ghost use Rattle.std.specs.Prelude.{◌≡◌, ◌<◌, length};
 ghost use Rattle.index.specs.Index.{index};
 ghost use Rattle.query.specs.Query.{rises, query_refusal, query_place, answered, query_outcome};

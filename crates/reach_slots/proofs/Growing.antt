@@ -15,7 +15,7 @@ use borrow.Author.Tests.{eq-eqb, ne_eqb, eqb-true}
 use Rattle.game.specs.Edge.{Edge, ◌─◌}
 use Rattle.game.specs.Game.{absent}
 use Rattle.game.specs.Table.{one_if, some_entry}
-use Rattle.game.specs.Tree.{climb, ancestors, under}
+use Rattle.game.specs.Tree.{ancestors, under}
 use Rattle.game.specs.Net.{enters, reach}
 use Rattle.game.proofs.Bools.{or_right, and_both, both-and, bool_false}
 use Rattle.game.proofs.Sound.{Sound}

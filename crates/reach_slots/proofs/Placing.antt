@@ -10,7 +10,6 @@ use lib.ListN.{length, get_or, set, length-set, get_or-eq_default}
 use lib.Seq.{get_or-set_same, get_or-set_other}
 use Rattle.game.specs.Game.{absent}
 use Rattle.game.proofs.Sound.{sound-parent, get_d_default}
-use Rattle.game.proofs.Climbs.{top}
 use Rattle.reach_slots.specs.Balance.{entry_of, child_sum, Subtrees}
 use Rattle.reach_slots.specs.Layout.{Own, Layout}
 use Rattle.game.proofs.Subtree.{climbs-inside}

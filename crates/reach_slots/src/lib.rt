@@ -2,6 +2,7 @@
 // ends of each subtree come in one stretch (layout, slotting). In that order the latest edge of a vertex tells where the path of the next
 // one overlaps what was counted before (overlap).
 #![tactic(auto)]
+
 mod layout;
 mod overlap;
 mod slotting;

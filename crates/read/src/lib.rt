@@ -1,5 +1,6 @@
 // The call read: a link file taken into a net's tables.
 #![tactic(auto)]
+
 ghost use Rattle.std.specs.Prelude.{◌≡◌, ◌+◌, ◌*◌, ◌≤◌, length};
 ghost use Rattle.words.specs.Word.{word_at};
 ghost use Rattle.game.specs.Tree.{sound_parent};

@@ -1,6 +1,7 @@
 // The records of a link file, below saving and reading: both take the size of a record and an absent parent's bytes from here, so that
 // what one writes is what the other compares with.
 #![tactic(auto)]
+
 ghost use Rattle.std.specs.Prelude.{◌≡◌, ◌+◌, ◌≤◌, eqb, length};
 ghost use Rattle.words.specs.Word.{word_bytes, word_at};
 ghost use Rattle.game.specs.Game.{absent};

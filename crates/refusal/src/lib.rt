@@ -1,5 +1,6 @@
 // Refusals: the answer type, document 01's limits, and the tests that several calls share.
 #![tactic(auto)]
+
 mod limits;
 
 ghost use Rattle.std.specs.Prelude.{◌≡◌, true, ◌+◌};

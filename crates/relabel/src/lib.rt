@@ -1,5 +1,6 @@
 // Relabelling: a list of ties in vertex numbers becomes one in ranks, by an order.
 #![tactic(auto)]
+
 ghost use Rattle.std.specs.Prelude.{◌≡◌};
 ghost use Rattle.refusal.specs.Answer.{verdict};
 ghost use Rattle.refusal.specs.Outcome.{ended};

@@ -5,6 +5,7 @@
 // It decides by reading alone, up to 22. Then it grows the net of the edges into the comparison tables and compares; only then does it
 // write anything else. The list is filed once, for growing; what is written is read from the same buckets.
 #![tactic(auto)]
+
 ghost use Rattle.std.specs.Prelude.{◌≡◌};
 ghost use Rattle.game.specs.Net.{net};
 ghost use Rattle.refusal.specs.Outcome.{ended};

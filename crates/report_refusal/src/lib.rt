@@ -1,5 +1,6 @@
 // What Report is refused for before anything is compared: 1, 2, 8, 30, 4, 5 or 32, 20 and 22, found by reading alone.
 #![tactic(auto)]
+
 ghost use Rattle.std.specs.Prelude.{◌≡◌, false, ◌||◌, length};
 ghost use Rattle.game.specs.Net.{net};
 ghost use Rattle.refusal.specs.Refusal.{wrong_length};

@@ -1,6 +1,7 @@
 // What a report writes of a net that is the net of its edges: the division, and what it costs. The list is filed already; the reaches
 // and the block counts are read from the same buckets.
 #![tactic(auto)]
+
 ghost use Rattle.std.specs.Prelude.{◌≡◌, List, length};
 ghost use Rattle.game.specs.Edge.{Edge, edges as edges_of};
 ghost use Rattle.game.specs.Net.{net};

@@ -1,6 +1,7 @@
 // A first list whose ties stand by rising upper end. The forest is grown upward from edges in that order, so this list is grown as it
 // stands: nothing is counted and nothing is filed.
 #![tactic(auto)]
+
 ghost use Rattle.std.specs.Prelude.{◌≡◌, true, false, length, replicate};
 ghost use Rattle.game.specs.Edge.{edges as edges_of, ties as ties_of};
 ghost use Rattle.game.specs.Game.{absent, forest};

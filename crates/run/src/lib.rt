@@ -1,6 +1,7 @@
 // One run of the program `blocks`, from the bytes of its three files to the text that it prints: the files are checked for what they are
 // refused for, and the text is written.
 #![tactic(auto)]
+
 ghost use Rattle.std.specs.Prelude.{◌≡◌, ◌≤◌, length, take, drop};
 ghost use Rattle.files.specs.Files.{files as files_of};
 ghost use Rattle.run.specs.Text.{run_text};

@@ -2,6 +2,7 @@
 // own, zeroed and at their full length: 1,000 vertices, 4,000 edges and 1,000 blocks. It lends the part of each that the run's own
 // vertices, edges and blocks take.
 #![tactic(auto)]
+
 ghost use Rattle.std.specs.Prelude.{◌≡◌, false, ◌≤◌, length};
 ghost use Rattle.game.specs.Edge.{ties as ties_of};
 ghost use Rattle.game.specs.Net.{net};

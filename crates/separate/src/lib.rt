@@ -2,6 +2,7 @@
 // Like a report it decides by reading alone, up to 20; then it grows the net of the edges into the comparison tables and compares; only
 // then does it walk up from the two.
 #![tactic(auto)]
+
 mod refusals;
 
 ghost use Rattle.std.specs.Prelude.{◌≡◌};

@@ -1,5 +1,6 @@
 // The even share of a total among blocks: as much to each as whole numbers allow, and what is left over.
 #![tactic(auto)]
+
 ghost use Rattle.std.specs.Prelude.{◌≡◌, ◌≤◌, ◌<◌, length};
 ghost use Rattle.game.specs.Table.{sum};
 ghost use Rattle.refusal.specs.Limits.{max_vertices, max_total};

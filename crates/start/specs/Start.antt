@@ -1,6 +1,6 @@
 -- "Start a net with no ties." What the tables held is not looked at: 30 is never given.
 -- Assumes nothing.
-use Rattle.std.specs.Prelude.{List, [], ◌∷◌, ℕ, length}
+use Rattle.std.specs.Prelude.{[], ◌∷◌, ℕ, length}
 use Rattle.game.specs.Net.{Net, net_of}
 use Rattle.refusal.specs.Refusal.{given, first, bad_count, wrong_length}
 use Rattle.refusal.specs.Outcome.{Done, done}

@@ -1,5 +1,6 @@
 // The call start: a net with no edges.
 #![tactic(auto)]
+
 ghost use Rattle.std.specs.Prelude.{◌≡◌};
 ghost use Rattle.game.specs.Net.{net};
 ghost use Rattle.refusal.specs.Answer.{verdict};

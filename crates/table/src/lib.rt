@@ -1,6 +1,7 @@
 // Numbers, as places in tables and as entries of them, and whole tables: filled with one number, found to hold one alone, copied, or added
 // up.
 #![tactic(auto)]
+
 ghost use Rattle.std.specs.Prelude.{◌≡◌, true, ℕ, ◌+◌, ◌^◌, ◌<◌, min, max, length, get_or, set, replicate};
 ghost use mathlib.Core.List.{zip_with};
 

@@ -1,8 +1,5 @@
 use mathlib.Core.Logic.{inl}
-use Prim.Native.Nat.{◌+◌, ◌-◌}
-use Rattle.game.specs.Game.{absent}
-use Rattle.ancestry.specs.Steps.{Walkable}
-use Rattle.ancestry.proofs.Walk.{Walks, walk_start, walks-low, walks-step, walks_less, walks-end}
+use Rattle.ancestry.proofs.Walk.{walk_start, walks-low, walks-step, walks_less, walks-end}
 use Rattle.ancestry.proofs.lowest_common.Goals as goal
 
 pub loop-a-init : goal.loop-a-init

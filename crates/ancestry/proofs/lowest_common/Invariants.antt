@@ -1,8 +1,7 @@
-use mathlib.Core.Logic.{inl}
 use Prim.Native.Nat.{◌+◌, ◌-◌}
 use Rattle.game.specs.Game.{absent}
 use Rattle.ancestry.specs.Steps.{Walkable}
-use Rattle.ancestry.proofs.Walk.{Walks, walk_start, walks-low, walks-step, walks_less, walks-end}
+use Rattle.ancestry.proofs.Walk.{Walks}
 use Rattle.ancestry.proofs.lowest_common.Given as goal
 
 abbrev pub invariant-loop-a : goal.invariant-loop-a

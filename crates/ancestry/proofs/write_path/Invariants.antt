@@ -1,8 +1,7 @@
-use native.Mathlib.Omega.{arith}
 use mathlib.Core.Path.{◌≡◌}
 use Prim.Native.Nat.{◌-◌}
 use lib.ListN.{length}
-use Rattle.ancestry.proofs.Written.{write-room, write-less, write-long, Writing, write-start, write-on, write-end}
+use Rattle.ancestry.proofs.Written.{Writing}
 use Rattle.game.specs.Game.{absent}
 use Rattle.ancestry.specs.Steps.{Walkable}
 use Rattle.ancestry.proofs.write_path.Given as goal

@@ -9,11 +9,12 @@ pub file_counted-requires : goal.file_counted-requires
 file_counted-requires c =
     let f = net-fileable c.requires c.fill-3.ensures c.fill-2.ensures c.sweep.ensures in
     record {
-  ends_value = f.0;
-  edges_value = f.1;
-  edges_in_bounds = f.2;
-  lower_len_bound = f.3;
-}
+      ends_value = f.0;
+      edges_value = f.1;
+      edges_in_bounds = f.2;
+      lower_len_bound = f.3;
+    }
+
 pub grow_kept-requires : goal.grow_kept-requires
 grow_kept-requires c =
     net-growable c.requires c.fill-3.ensures c.fill-2.ensures c.sweep.ensures c.fill.ensures c.file_counted.ensures

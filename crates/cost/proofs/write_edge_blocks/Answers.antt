@@ -1,11 +1,10 @@
 use Rattle.std.proofs.Common.{rules}
-use mathlib.Core.Path.{◌≡◌, refl, ap, ◌∙◌}
-use Prim.Native.Nat.{ℕ, ◌-◌}
+use mathlib.Core.Path.{refl, ap, ◌∙◌}
+use Prim.Native.Nat.{ℕ}
 use native.Mathlib.Omega.{arith}
-use lib.ListN.{length, get_or, length-set}
-use Rattle.game.specs.Edge.{edges as edges_of}
+use lib.ListN.{get_or, length-set}
 use Rattle.edge.proofs.Reading.{edge-inside}
-use Rattle.cost.proofs.Filling.{FillTurn, fill_start, fill-lower, fill_step, fill_end}
+use Rattle.cost.proofs.Filling.{fill_start, fill-lower, fill_step, fill_end}
 use Rattle.cost.proofs.write_edge_blocks.Goals as goal
 
 pub loop-i-init : goal.loop-i-init
@@ -31,12 +30,11 @@ bounds-edge_blocks-i c =
     omega (arith, edge-inside t.place c.loop-i-test.true, t.long)
 
 pub loop-i-preserved : goal.loop-i-preserved
-loop-i-preserved c =
-    (
-      simp length-set c.loop-i.invariant.0,
-      fill_step c.loop-i.invariant.1 c.loop-i-test.true c.at-e.ensures
-          (ap (λ (v : ℕ). get_or c.args.block.now v 0) (c.wide.ensures ∙ c.end_of.ensures)) refl,
-    )
+loop-i-preserved c = (
+  simp length-set c.loop-i.invariant.0,
+  fill_step c.loop-i.invariant.1 c.loop-i-test.true c.at-e.ensures
+      (ap (λ (v : ℕ). get_or c.args.block.now v 0) (c.wide.ensures ∙ c.end_of.ensures)) refl,
+)
 
 pub returns : goal.returns
 returns c = fill_end c.loop-i.invariant.1 c.loop-i-test.false

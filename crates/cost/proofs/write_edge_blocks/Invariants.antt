@@ -1,10 +1,8 @@
-use mathlib.Core.Path.{◌≡◌, refl, ap, ◌∙◌}
-use Prim.Native.Nat.{ℕ, ◌-◌}
-use native.Mathlib.Omega.{arith}
-use lib.ListN.{length, get_or, length-set}
+use mathlib.Core.Path.{◌≡◌}
+use Prim.Native.Nat.{◌-◌}
+use lib.ListN.{length}
 use Rattle.game.specs.Edge.{edges as edges_of}
-use Rattle.edge.proofs.Reading.{edge-inside}
-use Rattle.cost.proofs.Filling.{FillTurn, fill_start, fill-lower, fill_step, fill_end}
+use Rattle.cost.proofs.Filling.{FillTurn}
 use Rattle.cost.proofs.write_edge_blocks.Given as goal
 
 abbrev pub invariant-loop-i : goal.invariant-loop-i

@@ -1,10 +1,9 @@
 use native.Mathlib.Omega.{arith}
 use mathlib.Core.Path.{◌≡◌}
-use mathlib.Core.Logic.{◌⊎◌, inl, inr, ⊎_elim}
-use Prim.Native.Nat.{◌-◌, ◌<◌, ◌≤◌}
+use mathlib.Core.Logic.{◌⊎◌, inl, inr}
+use Prim.Native.Nat.{◌<◌, ◌≤◌}
 use Rattle.game.specs.Game.{absent}
-use Rattle.cut.proofs.Turns.{Turn, Scanning, Found, turns_left, restart-less, turn-begin, turn_inside, turn-few, turn-restart, turn-none, turn-found, turn-cut, turn-done, turn-less, scan-begin, at-inside, at_up, scan-taken, scan-passed, cut_inside, cut-least}
-use borrow.Author.Tests.{ltb-false}
+use Rattle.cut.proofs.Turns.{restart-less, turn-begin, turn_inside, turn-few, turn-restart, turn-none, turn-found, turn-cut, turn-done, turn-less, scan-begin, at-inside, at_up, scan-taken, scan-passed, cut_inside, cut-least}
 use Rattle.cut.proofs.trim.Goals.{Joined-found-most-2, then-loop-child-test+else-found-most, else-loop-child-test, then-found-most-2+else-start-first, else-found-most-2, then-found-here, else-found-here}
 use Rattle.cut.proofs.trim.Goals as goal
 
@@ -12,14 +11,14 @@ use Rattle.cut.proofs.trim.Goals as goal
 over : (c : Joined-found-most-2) → (c.loop-child.child ≡ absent) ⊎ (c.cut.most ≤ c.loop-child.found)
 over c =
     elim c.loop-child-test.branch [
-      then-loop-child-test+else-found-most w ↦ inr w.if-found-most.false
+      | then-loop-child-test+else-found-most w ↦ inr w.if-found-most.false
       | else-loop-child-test w ↦ inl w.loop-child-test.false
     ]
 
 seen : (c : Joined-found-most-2) → (c.cut.most ≤ c.loop-child.found) ⊎ ((c.loop-child.found < c.cut.most) × (c.cut.start ≡ c.args.first))
 seen c =
     elim c.if-found-most-2.branch [
-      then-found-most-2+else-start-first w ↦ inr (w.if-found-most-2.true, w.if-start-first.false)
+      | then-found-most-2+else-start-first w ↦ inr (w.if-found-most-2.true, w.if-start-first.false)
       | else-found-most-2 w ↦ inl w.if-found-most-2.false
     ]
 
@@ -114,7 +113,7 @@ loop-child-smaller c =
 pub loop-child-preserved : goal.loop-child-preserved
 loop-child-preserved c =
     elim c.if-found-here.branch [
-      then-found-here w ↦ scan-taken c.loop-child.invariant (turn_inside c.requires.loaded c.requires.candidates c.cut.invariant) (turn-few c.requires.loaded c.requires.candidates c.cut.invariant)
+      | then-found-here w ↦ scan-taken c.loop-child.invariant (turn_inside c.requires.loaded c.requires.candidates c.cut.invariant) (turn-few c.requires.loaded c.requires.candidates c.cut.invariant)
           c.loop-child-test.true c.wide-at.ensures c.weight_on-here.ensures w.if-found-here.true w.heaviest-is w.found-is
       | else-found-here w ↦ scan-passed c.loop-child.invariant (turn_inside c.requires.loaded c.requires.candidates c.cut.invariant) (turn-few c.requires.loaded c.requires.candidates c.cut.invariant)
           c.loop-child-test.true c.wide-at.ensures c.weight_on-here.ensures w.if-found-here.false w.heaviest-is w.found-is

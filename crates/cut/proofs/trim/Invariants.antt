@@ -1,10 +1,6 @@
-use native.Mathlib.Omega.{arith}
-use mathlib.Core.Path.{◌≡◌}
-use mathlib.Core.Logic.{◌⊎◌, inl, inr, ⊎_elim}
-use Prim.Native.Nat.{◌-◌, ◌<◌, ◌≤◌}
+use Prim.Native.Nat.{◌-◌}
 use Rattle.game.specs.Game.{absent}
-use Rattle.cut.proofs.Turns.{Turn, Scanning, Found, turns_left, restart-less, turn-begin, turn_inside, turn-few, turn-restart, turn-none, turn-found, turn-cut, turn-done, turn-less, scan-begin, at-inside, at_up, scan-taken, scan-passed, cut_inside, cut-least}
-use borrow.Author.Tests.{ltb-false}
+use Rattle.cut.proofs.Turns.{Turn, Scanning, turns_left}
 use Rattle.cut.proofs.trim.Given as goal
 
 abbrev pub invariant-loop-child : goal.invariant-loop-child

@@ -1,9 +1,6 @@
 use Rattle.std.proofs.Common.{rules}
 use native.Mathlib.Omega.{arith}
-use Prim.Native.Nat.{◌-◌, ◌≤◌}
-use lib.ListN.{length, take}
-use Rattle.decimal.specs.Put.{PutText}
-use Rattle.decimal.proofs.Runs.{put-length, put-none, put_next, put-room, put_all}
+use Rattle.decimal.proofs.Runs.{put-none, put_next, put-room, put_all}
 use Rattle.decimal.proofs.put_text.Goals as goal
 
 pub loop-i-init : goal.loop-i-init

@@ -1,8 +1,6 @@
-use native.Mathlib.Omega.{arith}
 use Prim.Native.Nat.{◌-◌, ◌≤◌}
 use lib.ListN.{length, take}
 use Rattle.decimal.specs.Put.{PutText}
-use Rattle.decimal.proofs.Runs.{put-length, put-none, put_next, put-room, put_all}
 use Rattle.decimal.proofs.put_text.Given as goal
 
 abbrev pub invariant-loop-i : goal.invariant-loop-i

@@ -5,9 +5,10 @@ use Rattle.divide.proofs.cut_and_pack.Goals as goal
 pub assign-requires : goal.assign-requires
 assign-requires c =
     record {
-  topped = tops-topped c.requires.divisible c.group.ensures;
-  packable = tops-packable c.requires.divisible c.group.ensures (c.group.auto.next ∙ c.requires.fitting.block) c.requires.fitting.some c.requires.fitting.few;
-}
+      topped = tops-topped c.requires.divisible c.group.ensures;
+      packable = tops-packable c.requires.divisible c.group.ensures (c.group.auto.next ∙ c.requires.fitting.block) c.requires.fitting.some c.requires.fitting.few;
+    }
+
 pub returns : goal.returns
 returns c =
     all-divided c.requires.divisible c.group.ensures c.assign.ensures c.assign.auto.loads

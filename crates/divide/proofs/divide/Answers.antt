@@ -10,9 +10,10 @@ returns-then-code-ne0 c = divide-refused _ _ _ _ c.divide_refusal-code.ensures c
 pub cut_and_pack-requires : goal.cut_and_pack-requires
 cut_and_pack-requires c =
     record {
-  divisible = (divide-known _ _ _ _ _ (sym c.divide_refusal-code.ensures ∙ c.if-code-ne0.false)).net;
-  fitting = (divide-known _ _ _ _ _ (sym c.divide_refusal-code.ensures ∙ c.if-code-ne0.false)).tables;
-}
+      divisible = (divide-known _ _ _ _ _ (sym c.divide_refusal-code.ensures ∙ c.if-code-ne0.false)).net;
+      fitting = (divide-known _ _ _ _ _ (sym c.divide_refusal-code.ensures ∙ c.if-code-ne0.false)).tables;
+    }
+
 pub returns : goal.returns
 unfolding verdict
 returns c =

@@ -1,10 +1,5 @@
 use native.Mathlib.Omega.{arith}
-use mathlib.Core.Path.{◌≡◌}
-use Prim.Native.Nat.{◌+◌, ◌-◌}
-use lib.ListN.{drop}
-use Rattle.game.specs.Edge.{edges as edges_of, ties as ties_of}
-use Rattle.game.specs.Net.{charges as charges_of}
-use Rattle.edge.proofs.Reading.{AtEdge, edge-start, edge-next, edge-inside, charges-here, charges-end}
+use Rattle.edge.proofs.Reading.{edge-start, edge-next, edge-inside, charges-here, charges-end}
 use Rattle.edge.proofs.charges.Goals as goal
 
 pub loop-i-init : goal.loop-i-init

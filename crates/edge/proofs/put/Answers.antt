@@ -1,7 +1,5 @@
 use native.Mathlib.Omega.{arith}
 use lib.ListN.{length-set}
-use Rattle.edge.proofs.put.Reads as reads
-use Rattle.edge.proofs.put.Lts as lts
 use Rattle.edge.proofs.put.Goals as goal
 
 -- src/lib.rt:81:5

@@ -1,9 +1,6 @@
 use Rattle.std.proofs.Common.{rules}
 use native.Mathlib.Omega.{arith}
-use mathlib.Core.Path.{sym, ◌∙◌}
-use Prim.Native.Nat.{◌-◌, ◌/◌, ◌≤◌}
-use lib.ListN.{length}
-use Rattle.files.proofs.Taking.{Taken, taken_none, taken-turn, taken-all}
+use Rattle.files.proofs.Taking.{taken_none, taken-turn, taken-all}
 use Rattle.files.proofs.take_words.Goals as goal
 
 pub loop-i-init : goal.loop-i-init

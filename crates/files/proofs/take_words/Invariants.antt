@@ -1,8 +1,6 @@
-use native.Mathlib.Omega.{arith}
-use mathlib.Core.Path.{sym, ◌∙◌}
 use Prim.Native.Nat.{◌-◌, ◌/◌, ◌≤◌}
 use lib.ListN.{length}
-use Rattle.files.proofs.Taking.{Taken, taken_none, taken-turn, taken-all}
+use Rattle.files.proofs.Taking.{Taken}
 use Rattle.files.proofs.take_words.Given as goal
 
 abbrev pub invariant-loop-i : goal.invariant-loop-i

@@ -23,13 +23,14 @@ pub file_links-requires : goal.file_links-requires
 file_links-requires c =
     let a = joinable _ _ (sym c.join_refusal-code.ensures ∙ c.if-code-ne0.false) in
     record {
-  ends_len = a.work.ends;
-  second_len = a.same;
-  first_len_bound = a.net.few;
-  first_value = true-sound a.net.sound;
-  second_value = true-sound a.second.sound;
-  lower_len = a.work.lower;
-}
+      ends_len = a.work.ends;
+      second_len = a.same;
+      first_len_bound = a.net.few;
+      first_value = true-sound a.net.sound;
+      second_value = true-sound a.second.sound;
+      lower_len = a.work.lower;
+    }
+
 pub grow-lowest-requires : goal.grow-lowest-requires
 grow-lowest-requires c =
     let a = joinable _ _ (sym c.join_refusal-code.ensures ∙ c.if-code-ne0.false) in

@@ -1,6 +1,5 @@
 use mathlib.Core.Path.{refl}
 use Rattle.game.specs.Tree.{sound_parent}
-use Prim.Native.Nat.{◌-◌}
 use Rattle.net.proofs.is_parent.Goals as goal
 
 pub returns : goal.returns

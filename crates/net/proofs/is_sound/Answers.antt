@@ -1,7 +1,4 @@
-use mathlib.Core.Path.{◌≡◌}
-use Prim.Native.Nat.{◌-◌}
-use lib.ListN.{length}
-use Rattle.net.proofs.Scan.{Scanned, scan-start, scan-on, scan-end}
+use Rattle.net.proofs.Scan.{scan-start, scan-on, scan-end}
 use Rattle.net.proofs.is_sound.Goals as goal
 
 pub loop-i-init : goal.loop-i-init

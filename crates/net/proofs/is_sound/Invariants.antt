@@ -1,7 +1,7 @@
 use mathlib.Core.Path.{◌≡◌}
 use Prim.Native.Nat.{◌-◌}
 use lib.ListN.{length}
-use Rattle.net.proofs.Scan.{Scanned, scan-start, scan-on, scan-end}
+use Rattle.net.proofs.Scan.{Scanned}
 use Rattle.net.proofs.is_sound.Given as goal
 
 abbrev pub invariant-loop-i : goal.invariant-loop-i

@@ -1,8 +1,4 @@
 use native.Mathlib.Omega.{arith}
-use mathlib.Core.Path.{◌≡◌}
-use Prim.Native.Nat.{◌+◌, ◌*◌, ◌-◌, ◌≤◌}
-use lib.ListN.{length, drop}
-use Rattle.game.specs.Table.{sum as total}
 use Rattle.game.proofs.Tables.{sum_drop, sum-end}
 use Rattle.net.proofs.total.Goals as goal
 

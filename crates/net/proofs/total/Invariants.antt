@@ -1,9 +1,7 @@
-use native.Mathlib.Omega.{arith}
 use mathlib.Core.Path.{◌≡◌}
 use Prim.Native.Nat.{◌+◌, ◌*◌, ◌-◌, ◌≤◌}
 use lib.ListN.{length, drop}
 use Rattle.game.specs.Table.{sum as total}
-use Rattle.game.proofs.Tables.{sum_drop, sum-end}
 use Rattle.net.proofs.total.Given as goal
 
 abbrev pub invariant-loop-i : goal.invariant-loop-i

@@ -1,5 +1,5 @@
 use mathlib.Core.Path.{refl, sym, ◌∙◌}
-use Rattle.order.proofs.Scan.{Read, read_none, read-large, read_again, read-room, read-clear, read-on, read_all}
+use Rattle.order.proofs.Scan.{read_none, read-large, read_again, read-room, read-clear, read-on, read_all}
 use Rattle.order.proofs.bad_order.Goals as goal
 
 pub loop-i-init : goal.loop-i-init

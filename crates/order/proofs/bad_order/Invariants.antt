@@ -1,5 +1,4 @@
-use mathlib.Core.Path.{refl, sym, ◌∙◌}
-use Rattle.order.proofs.Scan.{Read, read_none, read-large, read_again, read-room, read-clear, read-on, read_all}
+use Rattle.order.proofs.Scan.{Read}
 use Rattle.order.proofs.bad_order.Given as goal
 
 abbrev pub invariant-loop-i : goal.invariant-loop-i

@@ -1,8 +1,5 @@
 use native.Mathlib.Omega.{arith}
-use mathlib.Core.Path.{sym, ◌∙◌}
-use Prim.Native.Nat.{◌-◌}
-use lib.ListN.{length}
-use Rattle.order.proofs.Fill.{Inverted, inverted-none, inverted-room, inverted-more, inverted-all}
+use Rattle.order.proofs.Fill.{inverted-none, inverted-room, inverted-more, inverted-all}
 use Rattle.order.proofs.invert.Goals as goal
 
 pub loop-r-init : goal.loop-r-init

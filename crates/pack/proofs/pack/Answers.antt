@@ -1,12 +1,8 @@
 use native.Mathlib.Omega.{arith}
-use mathlib.Core.Path.{◌≡◌, refl, sym, ap, ◌∙◌}
-use mathlib.Core.Logic.{⊎_elim}
-use Prim.Native.Nat.{◌-◌}
-use lib.ListN.{length}
+use mathlib.Core.Path.{refl, sym, ap, ◌∙◌}
 use Rattle.pack.specs.Lightest.{lightest}
-use Rattle.pack.specs.TournamentSteps.{Tournament}
 use Rattle.pack.proofs.Winners.{lightest-zeros, tournament-same, outdated}
-use Rattle.pack.proofs.Blocks.{Packs, packs-none, packs-length, packs-few, packs-all, packs-pass, packs-inside, packs-fits, packs-more}
+use Rattle.pack.proofs.Blocks.{packs-none, packs-few, packs-all, packs-pass, packs-inside, packs-fits, packs-more}
 use Rattle.pack.proofs.pack.Goals.{then-wide-x, else-wide-x}
 use Rattle.pack.proofs.pack.Goals as goal
 
@@ -41,7 +37,7 @@ replay-best-requires c =
 pub loop-x-preserved : goal.loop-x-preserved
 loop-x-preserved c =
     elim c.if-wide-x.branch [
-      then-wide-x w ↦ (
+      | then-wide-x w ↦ (
         packs-more c.requires.packable c.loop-x.invariant.0 c.loop-x-test.true (sym c.wide.ensures ∙ w.if-wide-x.true) c.loop-x.invariant.2 w.block-is w.loads-is,
         tournament-same w.loads-is w.nodes-is w.replay-best.ensures.0,
         w.best-is ∙ w.replay-best.ensures.1 ∙ ap lightest (sym w.loads-is),

@@ -1,12 +1,9 @@
-use native.Mathlib.Omega.{arith}
-use mathlib.Core.Path.{◌≡◌, refl, sym, ap, ◌∙◌}
-use mathlib.Core.Logic.{⊎_elim}
+use mathlib.Core.Path.{◌≡◌}
 use Prim.Native.Nat.{◌-◌}
 use lib.ListN.{length}
 use Rattle.pack.specs.Lightest.{lightest}
 use Rattle.pack.specs.TournamentSteps.{Tournament}
-use Rattle.pack.proofs.Winners.{lightest-zeros, tournament-same, outdated}
-use Rattle.pack.proofs.Blocks.{Packs, packs-none, packs-length, packs-few, packs-all, packs-pass, packs-inside, packs-fits, packs-more}
+use Rattle.pack.proofs.Blocks.{Packs}
 use Rattle.pack.proofs.pack.Given as goal
 
 abbrev pub invariant-loop-x : goal.invariant-loop-x

@@ -1,7 +1,5 @@
 use native.Mathlib.Omega.{arith}
-use Prim.Native.Nat.{◌-◌}
-use lib.ListN.{length}
-use Rattle.pack.proofs.Blocks.{Spread, spread_none, spread-inside, spread-more}
+use Rattle.pack.proofs.Blocks.{spread_none, spread-inside, spread-more}
 use Rattle.pack.proofs.spread.Goals as goal
 
 pub loop-x-init : goal.loop-x-init

@@ -1,7 +1,6 @@
-use native.Mathlib.Omega.{arith}
 use Prim.Native.Nat.{◌-◌}
 use lib.ListN.{length}
-use Rattle.pack.proofs.Blocks.{Spread, spread_none, spread-inside, spread-more}
+use Rattle.pack.proofs.Blocks.{Spread}
 use Rattle.pack.proofs.spread.Given as goal
 
 abbrev pub invariant-loop-x : goal.invariant-loop-x

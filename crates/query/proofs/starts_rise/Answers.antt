@@ -1,6 +1,4 @@
-use Prim.Native.Nat.{◌-◌}
-use lib.ListN.{length}
-use Rattle.query.proofs.Rising.{Scanning, scan-start, scan-turn, scan-end}
+use Rattle.query.proofs.Rising.{scan-start, scan-turn, scan-end}
 use Rattle.query.proofs.starts_rise.Goals as goal
 
 pub loop-i-init : goal.loop-i-init

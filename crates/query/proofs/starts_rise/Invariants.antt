@@ -1,6 +1,6 @@
 use Prim.Native.Nat.{◌-◌}
 use lib.ListN.{length}
-use Rattle.query.proofs.Rising.{Scanning, scan-start, scan-turn, scan-end}
+use Rattle.query.proofs.Rising.{Scanning}
 use Rattle.query.proofs.starts_rise.Given as goal
 
 abbrev pub invariant-loop-i : goal.invariant-loop-i

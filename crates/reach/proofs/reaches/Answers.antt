@@ -16,10 +16,11 @@ lay_out-requires c =
     let (es, g, f, m) = c.requires.given in
     let (er, ee, ea, ep, eo) = c.requires.reach_len in
     record {
-  summable = net-summable g;
-  counts_value = net-total g ∙ sym m;
-  ends_len = (ee, ea);
-}
+      summable = net-summable g;
+      counts_value = net-total g ∙ sym m;
+      ends_len = (ee, ea);
+    }
+
 pub fill_slots-requires : goal.fill_slots-requires
 fill_slots-requires c =
     let (es, g, f, m) = c.requires.given in
@@ -27,11 +28,12 @@ fill_slots-requires c =
     let l = c.lay_out.ensures in
     let w = (net-summable g).entries in
     record {
-  counts_len_bound = rw w g.vertices;
-  stops_len = (l.entries ∙ sym w, er ∙ sym w);
-  consecutive = in_row g f;
-  by_index = (_, _, es, own-filed g f, net-fileable (regrouped g f) l (slots-regrouped g f g m));
-}
+      counts_len_bound = rw w g.vertices;
+      stops_len = (l.entries ∙ sym w, er ∙ sym w);
+      consecutive = in_row g f;
+      by_index = (_, _, es, own-filed g f, net-fileable (regrouped g f) l (slots-regrouped g f g m));
+    }
+
 pub count_overlaps-requires : goal.count_overlaps-requires
 count_overlaps-requires c =
     let (es, g, f, m) = c.requires.given in
@@ -41,9 +43,10 @@ count_overlaps-requires c =
     let (filed, content, marked) = c.fill_slots.ensures _ _ es (own-filed g f) (net-fileable (regrouped g f) l e) in
     let k = c.fill_slots.auto in
     record {
-  overlaps_len = (eo, k.stops ∙ l.entries, ep);
-  by_index = (_, filed, _, net-slotted (regrouped g f) l e k.slots (k.first ∙ er) content marked);
-}
+      overlaps_len = (eo, k.stops ∙ l.entries, ep);
+      by_index = (_, filed, _, net-slotted (regrouped g f) l e k.slots (k.first ∙ er) content marked);
+    }
+
 pub copy-requires : goal.copy-requires
 copy-requires c =
     let (es, g, f, m) = c.requires.given in c.fill_slots.auto.first ∙ c.requires.reach_len.0 ∙ sym (net-summable g).entries
@@ -58,10 +61,11 @@ sum_reaches-requires c =
     let k = c.fill_slots.auto in
     let s = net-slotted (regrouped g f) l e k.slots (k.first ∙ er) content marked in
     let same = c.copy.ensures in record {
-  summable = rw same (net-summable g);
-  overlaps_len = c.count_overlaps.auto.overlaps ∙ eo;
-  by_index = (reach_of c.args.parents.now (in_buckets es 0 (length c.args.bucket_ends.now)), rw same (c.count_overlaps.ensures _ filed _ s));
-}
+      summable = rw same (net-summable g);
+      overlaps_len = c.count_overlaps.auto.overlaps ∙ eo;
+      by_index = (reach_of c.args.parents.now (in_buckets es 0 (length c.args.bucket_ends.now)), rw same (c.count_overlaps.ensures _ filed _ s));
+    }
+
 pub returns : goal.returns
 returns c =
     λ es g f.

@@ -1,8 +1,6 @@
 use Rattle.std.proofs.Common.{rules}
-use Prim.Native.Nat.{◌-◌, ◌≤◌}
-use lib.ListN.{length}
 use native.Mathlib.Nat.{le_antisymm}
-use Rattle.reach_slots.proofs.Summing.{Summed, summed-first, turn-less, turn-fits, turn-root, turn-child, turn_last}
+use Rattle.reach_slots.proofs.Summing.{summed-first, turn-less, turn-fits, turn-root, turn-child, turn_last}
 use Rattle.reach.proofs.sum_reaches.Goals as goal
 
 pub loop-x-init : goal.loop-x-init

@@ -1,7 +1,6 @@
 use Prim.Native.Nat.{◌-◌, ◌≤◌}
 use lib.ListN.{length}
-use native.Mathlib.Nat.{le_antisymm}
-use Rattle.reach_slots.proofs.Summing.{Summed, summed-first, turn-less, turn-fits, turn-root, turn-child, turn_last}
+use Rattle.reach_slots.proofs.Summing.{Summed}
 use Rattle.reach.proofs.sum_reaches.Given as goal
 
 abbrev pub invariant-loop-x : goal.invariant-loop-x

@@ -1,9 +1,7 @@
 use Rattle.std.proofs.Common.{rules}
 use native.Mathlib.Omega.{arith}
 use mathlib.Core.Path.{sym, ◌∙◌}
-use Prim.Native.Nat.{◌*◌, ◌-◌, ◌≤◌}
-use borrow.Author.Tests.{not-true, not-false}
-use Rattle.read.proofs.Check.{Checked, checked-none, checked-turn, checked-stop, checked-above, checked-within}
+use Rattle.read.proofs.Check.{checked-none, checked-turn, checked-stop, checked-above, checked-within}
 use Rattle.read.proofs.records_refusal.Goals as goal
 
 pub loop-rank-init : goal.loop-rank-init
@@ -17,12 +15,11 @@ pub overflow_add-total : goal.overflow_add-total
 overflow_add-total c = omega (arith, c.word_at.type_inv)
 
 pub loop-rank-preserved : goal.loop-rank-preserved
-loop-rank-preserved c =
-    (
-      search rules,
-      omega (arith, c.word_at.type_inv),
-      checked-turn c.requires.0 c.loop-rank.invariant.2 c.loop-rank-test.true (sym c.is_parent_at.ensures ∙ c.if-not-is_parent_at.false) (c.amount-total.ensures ∙ c.word_at.ensures),
-    )
+loop-rank-preserved c = (
+  search rules,
+  omega (arith, c.word_at.type_inv),
+  checked-turn c.requires.0 c.loop-rank.invariant.2 c.loop-rank-test.true (sym c.is_parent_at.ensures ∙ c.if-not-is_parent_at.false) (c.amount-total.ensures ∙ c.word_at.ensures),
+)
 
 pub returns-then-total-gt-MAX_TOTAL : goal.returns-then-total-gt-MAX_TOTAL
 returns-then-total-gt-MAX_TOTAL c = sym (checked-above c.requires.0 c.loop-rank.invariant.2 c.loop-rank-test.false c.if-total-gt-MAX_TOTAL.true)

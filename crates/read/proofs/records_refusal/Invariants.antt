@@ -1,8 +1,5 @@
-use native.Mathlib.Omega.{arith}
-use mathlib.Core.Path.{sym, ◌∙◌}
 use Prim.Native.Nat.{◌*◌, ◌-◌, ◌≤◌}
-use borrow.Author.Tests.{not-true, not-false}
-use Rattle.read.proofs.Check.{Checked, checked-none, checked-turn, checked-stop, checked-above, checked-within}
+use Rattle.read.proofs.Check.{Checked}
 use Rattle.read.proofs.records_refusal.Given as goal
 
 abbrev pub invariant-loop-rank : goal.invariant-loop-rank

@@ -1,7 +1,7 @@
 use mathlib.Core.Path.{◌≡◌}
 use Prim.Native.Nat.{◌-◌, ◌≤◌}
 use lib.ListN.{length}
-use Rattle.read.proofs.Records.{Taken, taken_none, taken-turn, taken-end}
+use Rattle.read.proofs.Records.{Taken}
 use Rattle.read.proofs.take_records.Given as goal
 
 abbrev pub invariant-loop-rank : goal.invariant-loop-rank

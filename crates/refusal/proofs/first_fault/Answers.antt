@@ -1,9 +1,5 @@
-use mathlib.Core.Path.{◌≡◌, refl, sym, ◌∙◌}
-use Prim.Native.Nat.{◌-◌}
-use lib.ListN.{drop}
-use Rattle.game.specs.Edge.{edges as edges_of, ties as ties_of}
-use Rattle.edge.proofs.Reading.{AtEdge, edge-start, edge-next, edge-inside, tie_here, tie_end}
-use Rattle.refusal.specs.Refusal.{first_fault}
+use mathlib.Core.Path.{refl, sym, ◌∙◌}
+use Rattle.edge.proofs.Reading.{edge-start, edge-next, edge-inside, tie_here, tie_end}
 use Rattle.refusal.proofs.Fault.{scan-stop, scan-on, scan-end}
 use Rattle.refusal.proofs.first_fault.Goals as goal
 

@@ -1,10 +1,9 @@
-use mathlib.Core.Path.{◌≡◌, refl, sym, ◌∙◌}
+use mathlib.Core.Path.{◌≡◌}
 use Prim.Native.Nat.{◌-◌}
 use lib.ListN.{drop}
 use Rattle.game.specs.Edge.{edges as edges_of, ties as ties_of}
-use Rattle.edge.proofs.Reading.{AtEdge, edge-start, edge-next, edge-inside, tie_here, tie_end}
+use Rattle.edge.proofs.Reading.{AtEdge}
 use Rattle.refusal.specs.Refusal.{first_fault}
-use Rattle.refusal.proofs.Fault.{scan-stop, scan-on, scan-end}
 use Rattle.refusal.proofs.first_fault.Given as goal
 
 abbrev pub invariant-loop-i : goal.invariant-loop-i

@@ -1,10 +1,5 @@
-use mathlib.Core.Bool.{◌||◌}
-use mathlib.Core.Path.{◌≡◌, refl, sym, ◌∙◌}
-use Prim.Native.Nat.{◌-◌}
-use lib.ListN.{drop}
-use Rattle.game.specs.Edge.{edges as edges_of, ties as ties_of}
-use Rattle.edge.proofs.Reading.{AtEdge, edge-start, edge-next, edge-inside, tie_here, tie_end}
-use Rattle.refusal.specs.Steps.{some_fault}
+use mathlib.Core.Path.{refl, sym, ◌∙◌}
+use Rattle.edge.proofs.Reading.{edge-start, edge-next, edge-inside, tie_here, tie_end}
 use Rattle.refusal.proofs.Sweep.{sweep-on, sweep-end}
 use Rattle.refusal.proofs.has_fault.Goals as goal
 

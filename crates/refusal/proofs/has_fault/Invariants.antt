@@ -1,11 +1,10 @@
 use mathlib.Core.Bool.{◌||◌}
-use mathlib.Core.Path.{◌≡◌, refl, sym, ◌∙◌}
+use mathlib.Core.Path.{◌≡◌}
 use Prim.Native.Nat.{◌-◌}
 use lib.ListN.{drop}
 use Rattle.game.specs.Edge.{edges as edges_of, ties as ties_of}
-use Rattle.edge.proofs.Reading.{AtEdge, edge-start, edge-next, edge-inside, tie_here, tie_end}
+use Rattle.edge.proofs.Reading.{AtEdge}
 use Rattle.refusal.specs.Steps.{some_fault}
-use Rattle.refusal.proofs.Sweep.{sweep-on, sweep-end}
 use Rattle.refusal.proofs.has_fault.Given as goal
 
 abbrev pub invariant-loop-i : goal.invariant-loop-i

@@ -1,5 +1,4 @@
 use mathlib.Core.Path.{sym, ◌∙◌}
-use borrow.Author.Tests.{not-true}
 use Rattle.refusal.proofs.Sweep.{none_first}
 use Rattle.refusal.proofs.list_fault.Goals as goal
 

@@ -1,9 +1,6 @@
 use mathlib.Core.Path.{sym, ◌∙◌}
-use Prim.Native.Nat.{◌*◌, ◌-◌}
-use Rattle.game.specs.Edge.{edges as edges_of}
-use Rattle.edge.proofs.Reading.{AtEdge, edge-start, edge-next, edge-inside}
-use Rattle.relabel.specs.Steps.{looked_up}
-use Rattle.relabel.proofs.Filled.{Filled, filled_none, looked-up-length, looked-up-ends, looked-up-room, looked-up-turn, looked-up-all}
+use Rattle.edge.proofs.Reading.{edge-start, edge-next, edge-inside}
+use Rattle.relabel.proofs.Filled.{filled_none, looked-up-length, looked-up-ends, looked-up-room, looked-up-turn, looked-up-all}
 use Rattle.relabel.proofs.look_up.Goals as goal
 
 pub loop-i-init : goal.loop-i-init

@@ -1,9 +1,8 @@
-use mathlib.Core.Path.{sym, ◌∙◌}
 use Prim.Native.Nat.{◌*◌, ◌-◌}
 use Rattle.game.specs.Edge.{edges as edges_of}
-use Rattle.edge.proofs.Reading.{AtEdge, edge-start, edge-next, edge-inside}
+use Rattle.edge.proofs.Reading.{AtEdge}
 use Rattle.relabel.specs.Steps.{looked_up}
-use Rattle.relabel.proofs.Filled.{Filled, filled_none, looked-up-length, looked-up-ends, looked-up-room, looked-up-turn, looked-up-all}
+use Rattle.relabel.proofs.Filled.{Filled}
 use Rattle.relabel.proofs.look_up.Given as goal
 
 abbrev pub invariant-loop-i : goal.invariant-loop-i

@@ -1,5 +1,4 @@
 use mathlib.Core.Path.{refl, sym, ap, ◌∙◌}
-use borrow.Author.Tests.{not-true, not-false}
 use Rattle.game.specs.Net.{net}
 use Rattle.growth.specs.Work.{work_of}
 use Rattle.growth.proofs.Rooms.{same-room}

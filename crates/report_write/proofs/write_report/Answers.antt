@@ -15,9 +15,10 @@ divide_and_reach-requires c =
 pub write_edge_blocks-requires : goal.write_edge_blocks-requires
 write_edge_blocks-requires c =
     let q = c.requires.0 in let d = c.divide_and_reach in record {
-  proper = block-proper q (c.divide_and_reach.ensures _ q (lower-counted q c.count_lower.ensures));
-  edge_blocks_len = c.divide_and_reach.auto.edge_blocks ∙ q.edge_blocks;
-}
+      proper = block-proper q (c.divide_and_reach.ensures _ q (lower-counted q c.count_lower.ensures));
+      edge_blocks_len = c.divide_and_reach.auto.edge_blocks ∙ q.edge_blocks;
+    }
+
 pub narrow-requires : goal.narrow-requires
 narrow-requires c =
     omega (arith, c.divide_and_reach.auto.block_loads, c.requires.0.division.few)

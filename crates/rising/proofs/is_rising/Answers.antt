@@ -1,8 +1,7 @@
 use mathlib.Core.Path.{sym}
 use mathlib.Core.Bool.{true≢false}
-use Prim.Native.Nat.{◌-◌}
 use Rattle.edge.proofs.Reading.{edge-inside}
-use Rattle.rising.proofs.Rising.{Reading, reading-start, reading-tie, reading-end}
+use Rattle.rising.proofs.Rising.{reading-start, reading-tie, reading-end}
 use Rattle.rising.proofs.is_rising.Goals as goal
 
 pub loop-i-init : goal.loop-i-init

@@ -1,8 +1,5 @@
-use mathlib.Core.Path.{sym}
-use mathlib.Core.Bool.{true≢false}
 use Prim.Native.Nat.{◌-◌}
-use Rattle.edge.proofs.Reading.{edge-inside}
-use Rattle.rising.proofs.Rising.{Reading, reading-start, reading-tie, reading-end}
+use Rattle.rising.proofs.Rising.{Reading}
 use Rattle.rising.proofs.is_rising.Given as goal
 
 abbrev pub invariant-loop-i : goal.invariant-loop-i

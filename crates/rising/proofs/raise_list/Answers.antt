@@ -1,23 +1,16 @@
-use mathlib.Core.Path.{◌≡◌, refl, sym, ap, subst, subst₂, ◌∙◌}
-use mathlib.Core.List.{List}
-use Prim.Native.Nat.{ℕ, ◌-◌}
+use mathlib.Core.Path.{refl, sym, subst, subst₂, ◌∙◌}
+use Prim.Native.Nat.{ℕ}
 use native.Mathlib.Omega.{arith}
-use lib.ListN.{length, drop, length-replicate}
-use Rattle.game.specs.Edge.{edges as edges_of, ties as ties_of}
-use Rattle.game.specs.Game.{absent}
-use Rattle.edge.proofs.Reading.{AtEdge, edge-start, edge-next, edge-inside, tie_here, tie_end}
+use Rattle.edge.proofs.Reading.{edge-start, edge-next, edge-inside, tie_here, tie_end}
 use Rattle.refusal.proofs.Fault.{list-proper}
-use Rattle.bucket.specs.Ends.{weighed}
-use Rattle.bucket.proofs.Charging.{Charging, charging-room, charging-turn, charging-end}
+use Rattle.bucket.proofs.Charging.{charging-room, charging-turn, charging-end}
 use Rattle.bucket.proofs.Sweeping.{owner-end, faultless-owner}
-use Rattle.growth.specs.Growth.{Upward, Untouched, new_parents}
-use Rattle.growth.specs.Moves.{Moves}
+use Rattle.growth.specs.Growth.{Upward}
 use Rattle.growth.proofs.Climbs.{upward-blank}
 use Rattle.growth.proofs.NewParents.{new-blank, untouched-none, untouched-on}
 use Rattle.growth.proofs.Moves.{moves-none, moves-on}
 use Rattle.rising.proofs.Rising.{rises-faultless}
 use Rattle.rising.proofs.Taking.{Taking, taking-start, taking-faultless, taking-upper, taking-edge, taking-end}
-use Rattle.rising.proofs.raise_list.Invariants.{Turn}
 use Rattle.rising.proofs.raise_list.Goals as goal
 
 pub loop-i-init : goal.loop-i-init
@@ -45,9 +38,10 @@ add_at-requires c =
     let head = tie_here _ t.place c.loop-i-test.true c.at-e.ensures c.rows-rows.ensures in
     let low = faultless-owner _ _ _ _ c.end_of-u.ensures (taking-faultless t.taking head) in
     record {
-  i_in_bounds = omega (arith, low.0, t.charging.long);
-  v_bound = charging-room t.charging head low.1 (owner-end _ _ c.end_of-u.ensures) low.0;
-}
+      i_in_bounds = omega (arith, low.0, t.charging.long);
+      v_bound = charging-room t.charging head low.1 (owner-end _ _ c.end_of-u.ensures) low.0;
+    }
+
 pub climb-moved-requires : goal.climb-moved-requires
 climb-moved-requires c =
     let t = c.loop-i.invariant in

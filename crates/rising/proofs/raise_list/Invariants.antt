@@ -1,22 +1,15 @@
-use mathlib.Core.Path.{◌≡◌, refl, sym, ap, subst, subst₂, ◌∙◌}
+use mathlib.Core.Path.{◌≡◌}
 use mathlib.Core.List.{List}
 use Prim.Native.Nat.{ℕ, ◌-◌}
-use native.Mathlib.Omega.{arith}
-use lib.ListN.{length, drop, length-replicate}
+use lib.ListN.{length, drop}
 use Rattle.game.specs.Edge.{edges as edges_of, ties as ties_of}
 use Rattle.game.specs.Game.{absent}
-use Rattle.edge.proofs.Reading.{AtEdge, edge-start, edge-next, edge-inside, tie_here, tie_end}
-use Rattle.refusal.proofs.Fault.{list-proper}
+use Rattle.edge.proofs.Reading.{AtEdge}
 use Rattle.bucket.specs.Ends.{weighed}
-use Rattle.bucket.proofs.Charging.{Charging, charging-room, charging-turn, charging-end}
-use Rattle.bucket.proofs.Sweeping.{owner-end, faultless-owner}
+use Rattle.bucket.proofs.Charging.{Charging}
 use Rattle.growth.specs.Growth.{Upward, Untouched, new_parents}
 use Rattle.growth.specs.Moves.{Moves}
-use Rattle.growth.proofs.Climbs.{upward-blank}
-use Rattle.growth.proofs.NewParents.{new-blank, untouched-none, untouched-on}
-use Rattle.growth.proofs.Moves.{moves-none, moves-on}
-use Rattle.rising.proofs.Rising.{rises-faultless}
-use Rattle.rising.proofs.Taking.{Taking, taking-start, taking-faultless, taking-upper, taking-edge, taking-end}
+use Rattle.rising.proofs.Taking.{Taking}
 use Rattle.rising.proofs.raise_list.Given as goal
 
 -- the edges before number i of m are taken in and weighed

@@ -35,9 +35,10 @@ pub divide-requires : goal.divide-requires
 unfolding limit blocks
 divide-requires c =
     record {
-  runnable = (parts-runnable c.load-code.ensures c.if-code-ne0.false, limits-good c.load-code.ensures c.if-code-ne0.false c.word_at-limit.ensures c.word_at-blocks.ensures);
-  text_room_in_bounds = search rules;
-}
+      runnable = (parts-runnable c.load-code.ensures c.if-code-ne0.false, limits-good c.load-code.ensures c.if-code-ne0.false c.word_at-limit.ensures c.word_at-blocks.ensures);
+      text_room_in_bounds = search rules;
+    }
+
 pub returns : goal.returns
 unfolding limit blocks
 returns c =

@@ -19,9 +19,10 @@ slice_bounds-grow_ranked-end-3 c = part-counted vertex_capacity _ c.requires.run
 pub grow_ranked-requires : goal.grow_ranked-requires
 grow_ranked-requires c =
     record {
-  runnable = c.requires.runnable.0;
-  grow_room = grow-room c.requires.runnable.0;
-}
+      runnable = c.requires.runnable.0;
+      grow_room = grow-room c.requires.runnable.0;
+    }
+
 pub slice_bounds-ranked-end-2 : goal.slice_bounds-ranked-end-2
 slice_bounds-ranked-end-2 c =
     front_fits number_capacity _ (numbers_fit c.requires.runnable.0) c.grow_ranked.new.ranked c.grow_ranked.auto.ranked
@@ -49,12 +50,13 @@ slice_bounds-report_on-end-3 c =
 pub report_on-requires : goal.report_on-requires
 report_on-requires c =
     record {
-  ready = to-report c.requires.runnable.0 (grown-again c.grow_ranked.ensures
+      ready = to-report c.requires.runnable.0 (grown-again c.grow_ranked.ensures
           (front-is number_capacity _ (numbers_fit c.requires.runnable.0) c.grow_ranked.new.ranked c.grow_ranked.auto.ranked)
           (front-is vertex_capacity _ c.requires.runnable.0.vertices c.grow_ranked.new.parents c.grow_ranked.auto.parents)
           (front-is vertex_capacity _ c.requires.runnable.0.vertices c.grow_ranked.new.weights c.grow_ranked.auto.weights)) c.requires.runnable.1;
-  text_room_in_bounds = c.requires.text_room_in_bounds;
-}
+      text_room_in_bounds = c.requires.text_room_in_bounds;
+    }
+
 pub returns : goal.returns
 returns c =
     put-ranked c.requires.runnable.0 (grown-again c.grow_ranked.ensures

@@ -94,14 +94,15 @@ slice_bounds-put_answer-end-4 c =
 pub put_answer-requires : goal.put_answer-requires
 put_answer-requires c =
     record {
-  columns = columns c.requires.ready
+      columns = columns c.requires.ready
           (front_length vertex_capacity _ c.requires.ready.vertices c.report-answer.new.reach c.report-answer.auto.reach)
           (front_length vertex_capacity _ c.requires.ready.vertices c.report-answer.new.top c.report-answer.auto.top)
           (front_length vertex_capacity _ c.requires.ready.vertices c.report-answer.new.block c.report-answer.auto.block)
           (front_length vertex_capacity _ c.requires.ready.vertices c.report-answer.new.block_count c.report-answer.auto.block_count);
-  totals_room_in_bounds = text-room
+      totals_room_in_bounds = text-room
           c.requires.ready _ c.requires.text_room_in_bounds;
-}
+    }
+
 pub returns : goal.returns
 returns c =
     put-prints c.requires.ready (report-room c.requires.ready c.count-m.ensures c.wide-k.ensures) c.report-answer.ensures

@@ -1,20 +1,14 @@
 use Rattle.std.proofs.Common.{rules}
-use mathlib.Core.Path.{◌≡◌, sym, ◌∙◌}
-use mathlib.Core.List.{◌++◌}
-use Prim.Native.Nat.{◌*◌, ◌-◌, ◌≤◌}
-use lib.ListN.{length, take, drop}
-use Rattle.game.specs.Net.{net as lent}
-use Rattle.records.specs.LinkFile.{link_file}
+use mathlib.Core.Path.{sym, ◌∙◌}
 use Rattle.save.proofs.Records.{save-turn, save-end}
 use Rattle.save.proofs.put_records.Goals as goal
 
 pub loop-rank-preserved : goal.loop-rank-preserved
-loop-rank-preserved c =
-    (
-      search rules,
-      search rules,
-      save-turn _ _ _ _ _ c.requires.0 c.loop-rank.invariant.1 c.loop-rank-test.true c.put_record.ensures ∙ c.loop-rank.invariant.2,
-    )
+loop-rank-preserved c = (
+  search rules,
+  search rules,
+  save-turn _ _ _ _ _ c.requires.0 c.loop-rank.invariant.1 c.loop-rank-test.true c.put_record.ensures ∙ c.loop-rank.invariant.2,
+)
 
 pub returns : goal.returns
 returns c = sym (save-end _ _ _ _ c.loop-rank.invariant.1 c.loop-rank-test.false) ∙ c.loop-rank.invariant.2

@@ -1,10 +1,9 @@
-use mathlib.Core.Path.{◌≡◌, sym, ◌∙◌}
+use mathlib.Core.Path.{◌≡◌}
 use mathlib.Core.List.{◌++◌}
 use Prim.Native.Nat.{◌*◌, ◌-◌, ◌≤◌}
 use lib.ListN.{length, take, drop}
 use Rattle.game.specs.Net.{net as lent}
 use Rattle.records.specs.LinkFile.{link_file}
-use Rattle.save.proofs.Records.{save-turn, save-end}
 use Rattle.save.proofs.put_records.Given as goal
 
 abbrev pub invariant-loop-rank : goal.invariant-loop-rank

@@ -1,6 +1,5 @@
 use Rattle.std.proofs.Common.{rules}
 use mathlib.Core.Path.{sym, ap, ◌∙◌}
-use borrow.Author.Tests.{not-true, not-false}
 use Rattle.game.specs.Net.{net}
 use Rattle.game.proofs.Edges.{edges-length}
 use Rattle.growth.specs.Work.{work_of}

@@ -1,9 +1,6 @@
 use native.Mathlib.Omega.{arith}
-use mathlib.Core.Path.{sym, ◌∙◌}
 use native.Mathlib.Nat.{le_refl}
-use Prim.Native.Nat.{◌-◌}
-use lib.ListN.{length}
-use Rattle.table.proofs.Summed.{Summed, sum-start, sum_step, sum-all}
+use Rattle.table.proofs.Summed.{sum-start, sum_step, sum-all}
 use Rattle.table.proofs.add_all.Goals as goal
 
 pub loop-i-init : goal.loop-i-init

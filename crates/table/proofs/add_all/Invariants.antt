@@ -1,9 +1,6 @@
-use native.Mathlib.Omega.{arith}
-use mathlib.Core.Path.{sym, ◌∙◌}
-use native.Mathlib.Nat.{le_refl}
 use Prim.Native.Nat.{◌-◌}
 use lib.ListN.{length}
-use Rattle.table.proofs.Summed.{Summed, sum-start, sum_step, sum-all}
+use Rattle.table.proofs.Summed.{Summed}
 use Rattle.table.proofs.add_all.Given as goal
 
 abbrev pub invariant-loop-i : goal.invariant-loop-i

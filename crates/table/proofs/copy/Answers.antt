@@ -1,7 +1,5 @@
 use mathlib.Core.Path.{refl, sym}
-use Prim.Native.Nat.{◌-◌}
-use lib.ListN.{length}
-use Rattle.table.proofs.Copying.{Copied, copied-first, copied-step, copied-last}
+use Rattle.table.proofs.Copying.{copied-first, copied-step, copied-last}
 use Rattle.table.proofs.copy.Goals as goal
 
 pub loop-i-init : goal.loop-i-init

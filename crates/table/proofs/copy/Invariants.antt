@@ -1,7 +1,6 @@
-use mathlib.Core.Path.{refl, sym}
 use Prim.Native.Nat.{◌-◌}
 use lib.ListN.{length}
-use Rattle.table.proofs.Copying.{Copied, copied-first, copied-step, copied-last}
+use Rattle.table.proofs.Copying.{Copied}
 use Rattle.table.proofs.copy.Given as goal
 
 abbrev pub invariant-loop-i : goal.invariant-loop-i

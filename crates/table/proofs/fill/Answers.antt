@@ -1,7 +1,6 @@
-use Prim.Native.Nat.{◌-◌}
 use native.Mathlib.Omega.{arith}
-use lib.ListN.{length, length-set}
-use Rattle.table.proofs.Filling.{Filling, filling-start, filling-turn, filling-end}
+use lib.ListN.{length-set}
+use Rattle.table.proofs.Filling.{filling-start, filling-turn, filling-end}
 use Rattle.table.proofs.fill.Goals as goal
 
 pub loop-i-init : goal.loop-i-init

@@ -1,7 +1,6 @@
 use Prim.Native.Nat.{◌-◌}
-use native.Mathlib.Omega.{arith}
-use lib.ListN.{length, length-set}
-use Rattle.table.proofs.Filling.{Filling, filling-start, filling-turn, filling-end}
+use lib.ListN.{length}
+use Rattle.table.proofs.Filling.{Filling}
 use Rattle.table.proofs.fill.Given as goal
 
 abbrev pub invariant-loop-i : goal.invariant-loop-i

@@ -1,6 +1,4 @@
-use Prim.Native.Nat.{◌-◌}
-use lib.ListN.{length}
-use Rattle.table.proofs.Filling.{Looking, looking-start, looking-turn, looking-end}
+use Rattle.table.proofs.Filling.{looking-start, looking-turn, looking-end}
 use Rattle.table.proofs.is_all.Goals as goal
 
 pub loop-i-init : goal.loop-i-init

@@ -1,6 +1,6 @@
 use Prim.Native.Nat.{◌-◌}
 use lib.ListN.{length}
-use Rattle.table.proofs.Filling.{Looking, looking-start, looking-turn, looking-end}
+use Rattle.table.proofs.Filling.{Looking}
 use Rattle.table.proofs.is_all.Given as goal
 
 abbrev pub invariant-loop-i : goal.invariant-loop-i

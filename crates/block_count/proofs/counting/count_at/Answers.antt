@@ -1,8 +1,6 @@
 use native.Mathlib.Omega.{arith}
-use mathlib.Core.Path.{◌≡◌, refl, sym, ◌∙◌}
-use Prim.Native.Nat.{◌+◌, ◌-◌}
-use lib.ListN.{length}
-use Rattle.block_count.proofs.Stamps.{AtTurn, at-start, at-few, at-step, at_all, at-end}
+use mathlib.Core.Path.{refl, ◌∙◌}
+use Rattle.block_count.proofs.Stamps.{at-start, at-few, at-step, at_all, at-end}
 use Rattle.block_count.proofs.counting.count_at.Goals as goal
 
 pub meet_own-count-requires : goal.meet_own-count-requires
@@ -39,13 +37,12 @@ overflow_add-count c =
     )
 
 pub loop-i-preserved : goal.loop-i-preserved
-loop-i-preserved c =
-    (
-      refl,
-      at-step c.loop-i.invariant.1 c.loop-i-test.true c.if-count-all.false c.wide-in-loop-i.ensures
-          (c.requires.blocks c.wide-in-loop-i.result (omega (arith, c.wide-in-loop-i.ensures, c.requires.neighbours c.loop-i.i c.loop-i-test.true))) c.meet-count.ensures.0
-          c.meet-count.ensures.1,
-    )
+loop-i-preserved c = (
+  refl,
+  at-step c.loop-i.invariant.1 c.loop-i-test.true c.if-count-all.false c.wide-in-loop-i.ensures
+      (c.requires.blocks c.wide-in-loop-i.result (omega (arith, c.wide-in-loop-i.ensures, c.requires.neighbours c.loop-i.i c.loop-i-test.true))) c.meet-count.ensures.0
+      c.meet-count.ensures.1,
+)
 
 pub returns : goal.returns
 returns c = at-end c.loop-i.invariant.1 c.loop-i-test.false

@@ -1,8 +1,7 @@
-use native.Mathlib.Omega.{arith}
-use mathlib.Core.Path.{◌≡◌, refl, sym, ◌∙◌}
+use mathlib.Core.Path.{◌≡◌}
 use Prim.Native.Nat.{◌+◌, ◌-◌}
 use lib.ListN.{length}
-use Rattle.block_count.proofs.Stamps.{AtTurn, at-start, at-few, at-step, at_all, at-end}
+use Rattle.block_count.proofs.Stamps.{AtTurn}
 use Rattle.block_count.proofs.counting.count_at.Given as goal
 
 abbrev pub invariant-loop-i : goal.invariant-loop-i

@@ -1,8 +1,5 @@
 use native.Mathlib.Omega.{arith}
-use mathlib.Core.Path.{sym, ◌∙◌}
-use Prim.Native.Nat.{◌-◌}
-use lib.ListN.{length}
-use Rattle.block_count.proofs.Buckets.{CountTurn, turn-start, turn-order, turn-room, turn-short, turn_up, turn-meets, turn-read, turn_step, turn_end}
+use Rattle.block_count.proofs.Buckets.{turn-start, turn-order, turn-room, turn-short, turn_up, turn-meets, turn-read, turn_step, turn_end}
 use Rattle.block_count.proofs.counting.count_buckets.Goals as goal
 
 pub loop-y-init : goal.loop-y-init
@@ -32,13 +29,12 @@ overflow_sub-end c =
     turn-order c.requires c.loop-y.invariant c.loop-y-test.true c.wide-end.ensures
 
 pub known_at-known-requires : goal.known_at-known-requires
-known_at-known-requires c =
-    (
-      turn_up c.requires c.loop-y.invariant c.loop-y-test.true c.wide-end.ensures,
-      turn-short c.requires c.loop-y.invariant c.loop-y-test.true c.wide-end.ensures,
-      turn-read c.requires
-          c.loop-y.invariant c.loop-y-test.true c.wide-end.ensures c.count_at-met.ensures,
-    )
+known_at-known-requires c = (
+  turn_up c.requires c.loop-y.invariant c.loop-y-test.true c.wide-end.ensures,
+  turn-short c.requires c.loop-y.invariant c.loop-y-test.true c.wide-end.ensures,
+  turn-read c.requires
+      c.loop-y.invariant c.loop-y-test.true c.wide-end.ensures c.count_at-met.ensures,
+)
 
 pub offset_bounds-edges_taken-y-in-loop-y : goal.offset_bounds-edges_taken-y-in-loop-y
 offset_bounds-edges_taken-y-in-loop-y c =

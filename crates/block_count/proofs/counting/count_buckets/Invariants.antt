@@ -1,8 +1,6 @@
-use native.Mathlib.Omega.{arith}
-use mathlib.Core.Path.{sym, ◌∙◌}
 use Prim.Native.Nat.{◌-◌}
 use lib.ListN.{length}
-use Rattle.block_count.proofs.Buckets.{CountTurn, turn-start, turn-order, turn-room, turn-short, turn_up, turn-meets, turn-read, turn_step, turn_end}
+use Rattle.block_count.proofs.Buckets.{CountTurn}
 use Rattle.block_count.proofs.counting.count_buckets.Given as goal
 
 abbrev pub invariant-loop-y : goal.invariant-loop-y

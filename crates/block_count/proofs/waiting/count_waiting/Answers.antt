@@ -1,7 +1,5 @@
 use native.Mathlib.Omega.{arith}
-use Prim.Native.Nat.{◌-◌}
-use lib.ListN.{length}
-use Rattle.block_count.proofs.Sweep.{WaitTurn, wait-start, wait-step, wait-fits, wait-end}
+use Rattle.block_count.proofs.Sweep.{wait-start, wait-step, wait-fits, wait-end}
 use Rattle.block_count.proofs.waiting.count_waiting.Goals as goal
 
 pub loop-x-init : goal.loop-x-init

@@ -1,7 +1,6 @@
-use native.Mathlib.Omega.{arith}
 use Prim.Native.Nat.{◌-◌}
 use lib.ListN.{length}
-use Rattle.block_count.proofs.Sweep.{WaitTurn, wait-start, wait-step, wait-fits, wait-end}
+use Rattle.block_count.proofs.Sweep.{WaitTurn}
 use Rattle.block_count.proofs.waiting.count_waiting.Given as goal
 
 abbrev pub invariant-loop-x : goal.invariant-loop-x

@@ -1,9 +1,6 @@
-use native.Mathlib.Omega.{arith}
-use mathlib.Core.Path.{sym, ◌∙◌}
 use Prim.Native.Nat.{◌-◌}
 use Rattle.game.specs.Edge.{edges as edges_of}
-use Rattle.edge.proofs.Reading.{edge-inside}
-use Rattle.block_count.proofs.Sweep.{low_end, SweepTurn, sweep-start, sweep-none, sweep-end, sweep-first, sweep-less, sweep-second, sweep-less-again, sweep-step}
+use Rattle.block_count.proofs.Sweep.{SweepTurn}
 use Rattle.block_count.proofs.waiting.settle.Given as goal
 
 abbrev pub invariant-loop-i : goal.invariant-loop-i

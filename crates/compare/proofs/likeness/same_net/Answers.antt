@@ -1,6 +1,5 @@
 use mathlib.Core.Path.{sym, ap, ◌∙◌}
 use mathlib.Core.Bool.{Bool, ◌&&◌}
-use borrow.Author.Tests.{not-true, not-false}
 use Rattle.compare.specs.Likeness.{same_net, same_table}
 use Rattle.compare.proofs.likeness.same_net.Goals as goal
 

@@ -1,8 +1,7 @@
-use mathlib.Core.Path.{◌≡◌, sym, ◌∙◌}
+use mathlib.Core.Path.{◌≡◌}
 use Prim.Native.Nat.{◌-◌, ◌≤◌}
 use lib.ListN.{length, drop}
 use Rattle.compare.specs.Likeness.{same_table}
-use Rattle.compare.proofs.Sameness.{scan-differs, scan-agrees, scan-over}
 use Rattle.compare.proofs.likeness.same_table.Given as goal
 
 abbrev pub invariant-loop-i : goal.invariant-loop-i

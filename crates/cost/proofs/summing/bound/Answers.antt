@@ -1,7 +1,6 @@
 use native.Mathlib.Omega.{arith}
-use mathlib.Core.Path.{◌≡◌, sym, ap, ◌∙◌}
-use Prim.Native.Nat.{ℕ, ◌*◌, ◌-◌, ◌≤◌}
-use lib.ListN.{length}
+use mathlib.Core.Path.{sym, ap, ◌∙◌}
+use Prim.Native.Nat.{ℕ}
 use Rattle.game.specs.Table.{tabulate, sum as total}
 use Rattle.cost.specs.SummingSteps.{bound_term, bound_by}
 use Rattle.cost.proofs.Sums.{sum-none, bound-term, bound-term-le, sum_step}
@@ -20,17 +19,16 @@ overflow_add-sum c =
     )
 
 pub loop-x-preserved : goal.loop-x-preserved
-loop-x-preserved c =
-    (
-      omega arith,
-      sum_step _ c.loop-x.x c.loop-x.invariant.1 (c.cut_reach-sum.ensures ∙ bound-term c.args.parents.now c.args.top.now c.args.reach.now c.loop-x.x c.loop-x-test.true),
-      omega (
-        arith,
-        c.cut_reach-sum.ensures ∙ bound-term c.args.parents.now c.args.top.now c.args.reach.now c.loop-x.x c.loop-x-test.true,
-        bound-term-le c.args.parents.now c.args.top.now c.args.reach.now c.loop-x.x,
-        c.shared_slice_known-in-loop-x-3-1.given c.loop-x.x,
-      ),
-    )
+loop-x-preserved c = (
+  omega arith,
+  sum_step _ c.loop-x.x c.loop-x.invariant.1 (c.cut_reach-sum.ensures ∙ bound-term c.args.parents.now c.args.top.now c.args.reach.now c.loop-x.x c.loop-x-test.true),
+  omega (
+    arith,
+    c.cut_reach-sum.ensures ∙ bound-term c.args.parents.now c.args.top.now c.args.reach.now c.loop-x.x c.loop-x-test.true,
+    bound-term-le c.args.parents.now c.args.top.now c.args.reach.now c.loop-x.x,
+    c.shared_slice_known-in-loop-x-3-1.given c.loop-x.x,
+  ),
+)
 
 pub returns : goal.returns
 unfolding bound_by

@@ -1,10 +1,8 @@
-use native.Mathlib.Omega.{arith}
-use mathlib.Core.Path.{◌≡◌, sym, ap, ◌∙◌}
-use Prim.Native.Nat.{ℕ, ◌*◌, ◌-◌, ◌≤◌}
+use mathlib.Core.Path.{◌≡◌}
+use Prim.Native.Nat.{◌*◌, ◌-◌, ◌≤◌}
 use lib.ListN.{length}
 use Rattle.game.specs.Table.{tabulate, sum as total}
-use Rattle.cost.specs.SummingSteps.{bound_term, bound_by}
-use Rattle.cost.proofs.Sums.{sum-none, bound-term, bound-term-le, sum_step}
+use Rattle.cost.specs.SummingSteps.{bound_term}
 use Rattle.cost.proofs.summing.bound.Given as goal
 
 abbrev pub invariant-loop-x : goal.invariant-loop-x

@@ -1,7 +1,6 @@
 use native.Mathlib.Omega.{arith}
-use mathlib.Core.Path.{◌≡◌, sym, ap, ◌∙◌}
-use Prim.Native.Nat.{ℕ, ◌*◌, ◌-◌, ◌≤◌}
-use lib.ListN.{length}
+use mathlib.Core.Path.{sym, ap, ◌∙◌}
+use Prim.Native.Nat.{ℕ}
 use Rattle.game.specs.Table.{tabulate, sum as total}
 use Rattle.cost.specs.SummingSteps.{volume_term, volume_by}
 use Rattle.cost.proofs.Sums.{sum_step, sum-none}
@@ -15,12 +14,11 @@ overflow_add-sum c = omega (arith, c.shared_slice_known-in-loop-x-1.given c.loop
 
 pub loop-x-preserved : goal.loop-x-preserved
 unfolding volume_term
-loop-x-preserved c =
-    (
-      omega arith,
-      sum_step _ c.loop-x.x c.loop-x.invariant.1 c.shared-sum.ensures,
-      omega (arith, c.shared_slice_known-in-loop-x-1.given c.loop-x.x, c.shared-sum.ensures),
-    )
+loop-x-preserved c = (
+  omega arith,
+  sum_step _ c.loop-x.x c.loop-x.invariant.1 c.shared-sum.ensures,
+  omega (arith, c.shared_slice_known-in-loop-x-1.given c.loop-x.x, c.shared-sum.ensures),
+)
 
 pub returns : goal.returns
 unfolding volume_by

@@ -1,10 +1,8 @@
-use native.Mathlib.Omega.{arith}
-use mathlib.Core.Path.{◌≡◌, sym, ap, ◌∙◌}
-use Prim.Native.Nat.{ℕ, ◌*◌, ◌-◌, ◌≤◌}
+use mathlib.Core.Path.{◌≡◌}
+use Prim.Native.Nat.{◌*◌, ◌-◌, ◌≤◌}
 use lib.ListN.{length}
 use Rattle.game.specs.Table.{tabulate, sum as total}
-use Rattle.cost.specs.SummingSteps.{volume_term, volume_by}
-use Rattle.cost.proofs.Sums.{sum_step, sum-none}
+use Rattle.cost.specs.SummingSteps.{volume_term}
 use Rattle.cost.proofs.summing.volume.Given as goal
 
 abbrev pub invariant-loop-x : goal.invariant-loop-x

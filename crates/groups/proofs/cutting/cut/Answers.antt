@@ -1,9 +1,6 @@
 use native.Mathlib.Omega.{arith}
-use mathlib.Core.Path.{sym, ap, ◌∙◌}
-use mathlib.Core.Logic.{⊎_elim}
-use Prim.Native.Nat.{◌-◌}
-use lib.ListN.{length, length-set, length-replicate}
-use Rattle.groups.proofs.Ranks.{Cutting, cutting-begin, cutting-done, cutting-loaded, cutting-children, step-root, step-child, hand-inside, hand-fits}
+use lib.ListN.{length-set}
+use Rattle.groups.proofs.Ranks.{cutting-begin, cutting-done, cutting-loaded, cutting-children, step-root, step-child, hand-inside, hand-fits}
 use Rattle.groups.proofs.cutting.cut.Goals.{then-parent, else-parent}
 use Rattle.groups.proofs.cutting.cut.Goals as goal
 
@@ -14,9 +11,10 @@ loop-x-init c =
 pub lighten-kept-requires : goal.lighten-kept-requires
 lighten-kept-requires c =
     record {
-  loaded = cutting-loaded c.requires.divisible c.loop-x.invariant c.loop-x-test.true;
-  children = cutting-children c.requires.divisible c.loop-x.invariant c.loop-x-test.true;
-}
+      loaded = cutting-loaded c.requires.divisible c.loop-x.invariant c.loop-x-test.true;
+      children = cutting-children c.requires.divisible c.loop-x.invariant c.loop-x-test.true;
+    }
+
 pub offset_bounds-link-above : goal.offset_bounds-link-above
 offset_bounds-link-above c =
     omega (
@@ -123,7 +121,7 @@ bounds-carried-above-else-parent c =
 pub loop-x-preserved : goal.loop-x-preserved
 loop-x-preserved c =
     elim c.if-parent.branch [
-      then-parent w ↦ step-root c.requires.divisible c.loop-x.invariant c.loop-x-test.true c.lighten-kept.ensures c.lighten-kept.auto.link c.lighten-kept.auto.next
+      | then-parent w ↦ step-root c.requires.divisible c.loop-x.invariant c.loop-x-test.true c.lighten-kept.ensures c.lighten-kept.auto.link c.lighten-kept.auto.next
           w.if-parent.true w.carried-is w.link-is w.next-is
       | else-parent w ↦ step-child c.requires.divisible c.loop-x.invariant c.loop-x-test.true c.lighten-kept.ensures c.lighten-kept.auto.link c.lighten-kept.auto.next
           w.wide-above.ensures w.if-parent.false w.carried-is w.link-is w.next-is

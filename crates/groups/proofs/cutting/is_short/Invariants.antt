@@ -1,8 +1,5 @@
-use native.Mathlib.Omega.{arith}
 use Prim.Native.Nat.{◌-◌}
-use borrow.Author.Tests.{ltb-true}
 use Rattle.cut.specs.Steps.{Listed}
-use Rattle.groups.proofs.Filing.{listed-inside, listed-on}
 use Rattle.groups.proofs.cutting.is_short.Given as goal
 
 abbrev pub invariant-loop-child : goal.invariant-loop-child

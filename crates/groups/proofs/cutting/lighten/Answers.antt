@@ -9,14 +9,15 @@ returns-then-weight-uncut c = lightened-not c.requires.loaded c.if-weight-uncut.
 pub lighten_by_class-requires : goal.lighten_by_class-requires
 lighten_by_class-requires c =
     record {
-  loaded = c.requires.loaded;
-  children = c.requires.children;
-  unfiled = unfiled 1 (omega arith) (omega arith);
-}
+      loaded = c.requires.loaded;
+      children = c.requires.children;
+      unfiled = unfiled 1 (omega arith) (omega arith);
+    }
+
 pub lighten_by_class-requires-2 : goal.lighten_by_class-requires-2
 lighten_by_class-requires-2 c =
     record {
-  loaded = c.requires.loaded;
-  children = c.requires.children;
-  unfiled = unfiled 736 (omega arith) (omega arith);
-}
+      loaded = c.requires.loaded;
+      children = c.requires.children;
+      unfiled = unfiled 736 (omega arith) (omega arith);
+    }

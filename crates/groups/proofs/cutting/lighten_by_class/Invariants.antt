@@ -1,11 +1,6 @@
-use native.Mathlib.Omega.{arith}
-use mathlib.Core.Path.{sym, ◌∙◌}
-use mathlib.Core.Logic.{inl, inr, ⊎_elim}
 use Prim.Native.Nat.{◌-◌}
 use lib.ListN.{length}
-use borrow.Author.Tests.{ltb-true, ltb-false}
-use Rattle.groups.proofs.Halving.{class-room}
-use Rattle.groups.proofs.Lightening.{Lighter, lighter-begin, lighter-small, lighter-skip, lighter-loaded, lighter-candidates, lighter-floor, lighter-trimmed, lightened}
+use Rattle.groups.proofs.Lightening.{Lighter}
 use Rattle.groups.proofs.cutting.lighten_by_class.Given as goal
 
 abbrev pub invariant-loop-class : goal.invariant-loop-class

@@ -1,5 +1,5 @@
 use native.Mathlib.Omega.{arith}
-use Rattle.groups.proofs.Climbing.{Climbing, climbing-none, climbing-all, climb-inside, climbing-more}
+use Rattle.groups.proofs.Climbing.{climbing-none, climbing-all, climb-inside, climbing-more}
 use Rattle.groups.proofs.grouping.find_tops.Goals as goal
 
 pub loop-x-init : goal.loop-x-init

@@ -1,5 +1,4 @@
-use native.Mathlib.Omega.{arith}
-use Rattle.groups.proofs.Climbing.{Climbing, climbing-none, climbing-all, climb-inside, climbing-more}
+use Rattle.groups.proofs.Climbing.{Climbing}
 use Rattle.groups.proofs.grouping.find_tops.Given as goal
 
 abbrev pub invariant-loop-x : goal.invariant-loop-x

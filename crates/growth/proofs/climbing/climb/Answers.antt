@@ -1,16 +1,10 @@
 use native.Mathlib.Omega.{arith}
-use mathlib.Core.Path.{◌≡◌, refl, sym, subst, ◌∙◌}
-use Prim.Native.Nat.{ℕ, ◌-◌}
-use mathlib.Core.List.{List, ◌∷◌}
-use lib.ListN.{length}
-use Rattle.game.specs.Edge.{Edge}
-use Rattle.game.proofs.Conn.{Conn}
-use Rattle.growth.specs.Growth.{Upward, Standing, Climbing, new_parents, Untouched}
-use Rattle.growth.specs.Moves.{Moves}
+use mathlib.Core.Path.{refl, sym, subst, ◌∙◌}
+use Prim.Native.Nat.{ℕ}
+use Rattle.growth.specs.Growth.{Upward}
 use Rattle.growth.proofs.NewParents.{untouched-none, untouched-on}
 use Rattle.growth.proofs.Moves.{moves-none, moves-on}
 use Rattle.growth.proofs.Climbs.{climb-start, climb-next, climb-done}
-use Rattle.growth.proofs.climbing.climb.Invariants.{Turn}
 use Rattle.growth.proofs.climbing.climb.Goals as goal
 
 pub loop-w-init : goal.loop-w-init

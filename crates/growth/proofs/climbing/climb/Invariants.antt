@@ -1,5 +1,4 @@
-use native.Mathlib.Omega.{arith}
-use mathlib.Core.Path.{◌≡◌, refl, sym, subst, ◌∙◌}
+use mathlib.Core.Path.{◌≡◌}
 use Prim.Native.Nat.{ℕ, ◌-◌}
 use mathlib.Core.List.{List, ◌∷◌}
 use lib.ListN.{length}
@@ -7,9 +6,6 @@ use Rattle.game.specs.Edge.{Edge}
 use Rattle.game.proofs.Conn.{Conn}
 use Rattle.growth.specs.Growth.{Upward, Standing, Climbing, new_parents, Untouched}
 use Rattle.growth.specs.Moves.{Moves}
-use Rattle.growth.proofs.NewParents.{untouched-none, untouched-on}
-use Rattle.growth.proofs.Moves.{moves-none, moves-on}
-use Rattle.growth.proofs.Climbs.{climb-start, climb-next, climb-done}
 use Rattle.growth.proofs.climbing.climb.Given as goal
 
 -- where the climb stands, for whatever graph the tables stand for

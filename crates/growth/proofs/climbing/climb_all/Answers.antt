@@ -1,17 +1,12 @@
-use lib.ListN.{drop, length}
-use mathlib.Core.Path.{refl, sym, subst, ◌∙◌, ◌≡◌}
-use mathlib.Core.List.{List}
-use Rattle.game.specs.Edge.{Edge}
-use mathlib.Core.Bool.{Bool}
-use Rattle.growth.specs.Growth.{Upward, Standing, Offers, Climbed, ReadUpTo, new_parents, Untouched}
-use Rattle.growth.specs.Moves.{Moves}
+use lib.ListN.{length}
+use mathlib.Core.Path.{refl, sym, subst, ◌∙◌}
+use Rattle.growth.specs.Growth.{Upward}
 use Rattle.growth.proofs.NewParents.{untouched-none, untouched-on}
 use Rattle.growth.proofs.Moves.{moves-none, moves-on}
 use Rattle.growth.proofs.Gather.{climbs-start, climbs-next, climbs-end}
 use Rattle.growth.proofs.ReadUpTo.{read-start, read-ahead, read-turn, read-end}
 use native.Mathlib.Omega.{arith}
-use Prim.Native.Nat.{ℕ, ◌-◌, ◌<◌}
-use Rattle.growth.proofs.climbing.climb_all.Invariants.{Turn}
+use Prim.Native.Nat.{ℕ, ◌<◌}
 use Rattle.growth.proofs.climbing.climb_all.Goals as goal
 
 pub loop-i-init : goal.loop-i-init

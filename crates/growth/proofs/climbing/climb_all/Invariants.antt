@@ -1,16 +1,11 @@
 use lib.ListN.{drop, length}
-use mathlib.Core.Path.{refl, sym, subst, ◌∙◌, ◌≡◌}
+use mathlib.Core.Path.{◌≡◌}
 use mathlib.Core.List.{List}
 use Rattle.game.specs.Edge.{Edge}
 use mathlib.Core.Bool.{Bool}
 use Rattle.growth.specs.Growth.{Upward, Standing, Offers, Climbed, ReadUpTo, new_parents, Untouched}
 use Rattle.growth.specs.Moves.{Moves}
-use Rattle.growth.proofs.NewParents.{untouched-none, untouched-on}
-use Rattle.growth.proofs.Moves.{moves-none, moves-on}
-use Rattle.growth.proofs.Gather.{climbs-start, climbs-next, climbs-end}
-use Rattle.growth.proofs.ReadUpTo.{read-start, read-ahead, read-turn, read-end}
-use native.Mathlib.Omega.{arith}
-use Prim.Native.Nat.{ℕ, ◌-◌, ◌<◌}
+use Prim.Native.Nat.{ℕ, ◌-◌}
 use Rattle.growth.proofs.climbing.climb_all.Given as goal
 
 -- the climbs from the first i vertices are made, for whatever graph the tables stand for

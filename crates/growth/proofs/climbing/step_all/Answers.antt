@@ -1,17 +1,13 @@
-use lib.ListN.{length, get_or, length-set}
+use lib.ListN.{length, length-set}
 use lib.Seq.{get_or-set_other}
 use mathlib.Core.Path.{refl, sym, subst, ◌∙◌, ◌≡◌}
-use mathlib.Core.List.{List, []}
-use Rattle.game.specs.Edge.{Edge}
-use Rattle.growth.specs.Growth.{Upward, Standing, Offers, Begun, new_parents, Untouched}
-use Rattle.growth.specs.Moves.{Moves}
+use Rattle.growth.specs.Growth.{Upward}
 use Rattle.growth.proofs.NewParents.{untouched-none, untouched-on}
 use Rattle.growth.proofs.Moves.{moves-none, moves-on}
 use Rattle.growth.proofs.Gather.{begin-start, begin-next}
 use native.Mathlib.Omega.{arith}
 use native.Mathlib.Nat.{le_refl}
-use Prim.Native.Nat.{ℕ, ◌-◌, ◌<◌, ◌≤◌}
-use Rattle.growth.proofs.climbing.step_all.Invariants.{Turn}
+use Prim.Native.Nat.{ℕ, ◌<◌}
 use Rattle.growth.proofs.climbing.step_all.Goals as goal
 
 pub loop-i-init : goal.loop-i-init

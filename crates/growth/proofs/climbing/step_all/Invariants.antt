@@ -1,16 +1,10 @@
-use lib.ListN.{length, get_or, length-set}
-use lib.Seq.{get_or-set_other}
-use mathlib.Core.Path.{refl, sym, subst, ◌∙◌, ◌≡◌}
+use lib.ListN.{length, get_or}
+use mathlib.Core.Path.{◌≡◌}
 use mathlib.Core.List.{List, []}
 use Rattle.game.specs.Edge.{Edge}
 use Rattle.growth.specs.Growth.{Upward, Standing, Offers, Begun, new_parents, Untouched}
 use Rattle.growth.specs.Moves.{Moves}
-use Rattle.growth.proofs.NewParents.{untouched-none, untouched-on}
-use Rattle.growth.proofs.Moves.{moves-none, moves-on}
-use Rattle.growth.proofs.Gather.{begin-start, begin-next}
-use native.Mathlib.Omega.{arith}
-use native.Mathlib.Nat.{le_refl}
-use Prim.Native.Nat.{ℕ, ◌-◌, ◌<◌, ◌≤◌}
+use Prim.Native.Nat.{ℕ, ◌-◌, ◌≤◌}
 use Rattle.growth.proofs.climbing.step_all.Given as goal
 
 -- a climb is begun from each of the first i vertices of the bucket, for whatever graph the tables stand for; behind them it is as it was

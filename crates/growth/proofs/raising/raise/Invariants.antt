@@ -1,22 +1,15 @@
-use mathlib.Core.Path.{refl, sym, ap, subst, subst₂, ◌∙◌, ◌≡◌}
+use mathlib.Core.Path.{◌≡◌}
 use mathlib.Core.List.{List}
-use lib.ListN.{length-replicate, length}
+use lib.ListN.{length}
 use Rattle.game.specs.Edge.{Edge}
 use Rattle.game.specs.Game.{absent}
 use Rattle.game.specs.Graph.{Proper}
 use mathlib.Core.Bool.{Bool}
 use Rattle.sorting.specs.Sorted.{begin}
 use Rattle.bucket.specs.Filed.{Filed}
-use Rattle.bucket.proofs.Reading.{begin-next, filed-part}
 use Rattle.growth.specs.Growth.{Upward, Raised, ReadUpTo, new_parents, Untouched}
 use Rattle.growth.specs.Moves.{Moves}
-use Rattle.growth.proofs.NewParents.{new-blank, untouched-none, untouched-on}
-use Rattle.growth.proofs.Moves.{moves-none, moves-on}
-use Rattle.growth.proofs.Climbs.{upward-blank}
-use Rattle.growth.proofs.Raise.{raise-start, raise-gather, raise-end}
-use Rattle.growth.proofs.ReadUpTo.{read-start, read-part, read-on}
-use native.Mathlib.Omega.{arith}
-use Prim.Native.Nat.{ℕ, ◌-◌, ◌<◌, ◌≤◌}
+use Prim.Native.Nat.{ℕ, ◌-◌, ◌≤◌}
 use Rattle.growth.proofs.raising.raise.Given as goal
 
 -- the vertices below y are raised, for whatever graph is filed

@@ -19,11 +19,12 @@ pub file_counted-requires : goal.file_counted-requires
 file_counted-requires c =
     let e = c.requires.0 in
     record {
-  ends_value = c.requires.2.counts ∙ ap (λ (k : ℕ). upper_counts k (edges_of c.args.edges.now)) (sym e.long);
-  edges_value = rw e.long e.faultless;
-  edges_in_bounds = omega (arith, e.room);
-  lower_len_bound = omega (arith, e.small);
-}
+      ends_value = c.requires.2.counts ∙ ap (λ (k : ℕ). upper_counts k (edges_of c.args.edges.now)) (sym e.long);
+      edges_value = rw e.long e.faultless;
+      edges_in_bounds = omega (arith, e.room);
+      lower_len_bound = omega (arith, e.small);
+    }
+
 pub grow-requires : goal.grow-requires
 grow-requires c =
     let e = c.requires.0 in
@@ -45,12 +46,13 @@ pub file_counted_edges-requires : goal.file_counted_edges-requires
 file_counted_edges-requires c =
     let e = c.requires.0 in
     record {
-  ends_value = c.requires.2.counts;
-  parents_value = e.table.sound;
-  edges_value = e.faultless;
-  edges_in_bounds = e.room;
-  lower_len_bound = omega (arith, e.small);
-}
+      ends_value = c.requires.2.counts;
+      parents_value = e.table.sound;
+      edges_value = e.faultless;
+      edges_in_bounds = e.room;
+      lower_len_bound = omega (arith, e.small);
+    }
+
 pub grow-requires-2 : goal.grow-requires-2
 grow-requires-2 c =
     filed-growable c.file_counted_edges.ensures c.requires.0.table.few refl c.requires.0.long_jump

@@ -21,13 +21,14 @@ file_edges-requires c =
     let u = c.put_some-progress.ensures.0 in
     let y = c.from.ensures in
     record {
-  ends_len = omega (arith, u.same, c.requires.long);
-  parents_len_bound = omega (arith, u.same, c.requires.table.few);
-  parents_value = u.sound;
-  edges_value = rest-faultless _ c.requires u y;
-  edges_in_bounds = rest-room _ c.requires u y;
-  lower_len_bound = omega (arith, c.requires.small);
-}
+      ends_len = omega (arith, u.same, c.requires.long);
+      parents_len_bound = omega (arith, u.same, c.requires.table.few);
+      parents_value = u.sound;
+      edges_value = rest-faultless _ c.requires u y;
+      edges_in_bounds = rest-room _ c.requires u y;
+      lower_len_bound = omega (arith, c.requires.small);
+    }
+
 pub grow-grown-requires : goal.grow-grown-requires
 grow-grown-requires c =
     let u = c.put_some-progress.ensures.0 in

@@ -1,11 +1,6 @@
 use native.Mathlib.Omega.{arith}
-use Prim.Native.Nat.{◌+◌, ◌-◌, ◌≤◌}
-use lib.ListN.{length}
-use Rattle.game.specs.Edge.{edges as edges_of}
-use Rattle.edge.proofs.Reading.{AtEdge, edge-start, edge-next, edge-inside, edge_here}
-use Rattle.moved.specs.Steps.{Fallen}
+use Rattle.edge.proofs.Reading.{edge-start, edge-next, edge-inside, edge_here}
 use Rattle.moved.proofs.Fallen.{fallen-none}
-use Rattle.insert.specs.Putting.{PutUpTo}
 use Rattle.insert.proofs.Puts.{put-none, put-ends, put_next}
 use Rattle.insert.proofs.putting.put_some.Goals as goal
 

@@ -1,10 +1,6 @@
 use native.Mathlib.Omega.{arith}
-use Prim.Native.Nat.{◌-◌}
-use lib.ListN.{length}
-use Rattle.game.specs.Edge.{◌─◌}
-use Rattle.insert.specs.Putting.{Lowers}
 use Rattle.insert.proofs.Lowered.{lowers-none, lowers-on}
-use Rattle.insert.proofs.Puts.{Trading, trade-start, trade-step, trade-end}
+use Rattle.insert.proofs.Puts.{trade-start, trade-step, trade-end}
 use Rattle.insert.proofs.putting.put_up.Goals as goal
 
 pub loop-low-init : goal.loop-low-init

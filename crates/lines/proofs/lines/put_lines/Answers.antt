@@ -1,9 +1,6 @@
 use Rattle.std.proofs.Common.{rules}
-use Prim.Native.Nat.{◌-◌, ◌≤◌}
-use lib.ListN.{length}
-use Rattle.decimal.proofs.Runs.{put-length}
 use Rattle.lines.specs.Lines.{rank_text}
-use Rattle.lines.proofs.Lined.{Lined, lined-none, line-room, lined-next, lined-all}
+use Rattle.lines.proofs.Lined.{lined-none, line-room, lined-next, lined-all}
 use Rattle.lines.proofs.lines.put_lines.Goals as goal
 
 pub loop-x-init : goal.loop-x-init

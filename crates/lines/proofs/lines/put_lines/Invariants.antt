@@ -1,8 +1,7 @@
 use Prim.Native.Nat.{◌-◌, ◌≤◌}
 use lib.ListN.{length}
-use Rattle.decimal.proofs.Runs.{put-length}
 use Rattle.lines.specs.Lines.{rank_text}
-use Rattle.lines.proofs.Lined.{Lined, lined-none, line-room, lined-next, lined-all}
+use Rattle.lines.proofs.Lined.{Lined}
 use Rattle.lines.proofs.lines.put_lines.Given as goal
 
 abbrev pub invariant-loop-x : goal.invariant-loop-x

@@ -1,6 +1,6 @@
 use native.Mathlib.Omega.{arith}
 use mathlib.Core.Path.{refl}
-use Rattle.pack.proofs.Winners.{Replaying, replay-begin, replay-more, replay-done, replay-none}
+use Rattle.pack.proofs.Winners.{replay-begin, replay-more, replay-done, replay-none}
 use Rattle.pack.proofs.tournament.replay.Goals as goal
 
 pub returns-then-nodes-i : goal.returns-then-nodes-i

@@ -1,6 +1,4 @@
-use native.Mathlib.Omega.{arith}
-use mathlib.Core.Path.{refl}
-use Rattle.pack.proofs.Winners.{Replaying, replay-begin, replay-more, replay-done, replay-none}
+use Rattle.pack.proofs.Winners.{Replaying}
 use Rattle.pack.proofs.tournament.replay.Given as goal
 
 abbrev pub invariant-loop-i : goal.invariant-loop-i

@@ -1,6 +1,5 @@
 use native.Mathlib.Omega.{arith}
-use lib.ListN.{replicate}
-use Rattle.pack.proofs.Winners.{Playing, start-high, start-begin, start-node, start-leaf, play-done}
+use Rattle.pack.proofs.Winners.{start-high, start-begin, start-node, start-leaf, play-done}
 use Rattle.pack.proofs.tournament.start.Goals as goal
 
 pub loop-i-init : goal.loop-i-init

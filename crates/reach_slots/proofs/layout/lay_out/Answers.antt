@@ -11,9 +11,10 @@ place_subtrees-requires c =
     let e = ap total c.copy.ensures ∙ c.requires.counts_value in
     let st = rw e at c.sum_subtrees.ensures in
     record {
-  ends_len = search rules;
-  by_index = (_, st);
-}
+      ends_len = search rules;
+      by_index = (_, st);
+    }
+
 pub returns : goal.returns
 returns c =
     let e = ap total c.copy.ensures ∙ c.requires.counts_value in

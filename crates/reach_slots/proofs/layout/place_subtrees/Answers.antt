@@ -1,11 +1,8 @@
 use native.Mathlib.Omega.{arith}
 use mathlib.Core.Path.{◌≡◌, refl, ap, ◌∙◌}
-use Prim.Native.Nat.{ℕ}
 use lib.ListN.{length, length-set}
-use mathlib.Core.List.{List}
 use native.Mathlib.Nat.{le_refl}
-use Rattle.reach_slots.specs.Balance.{entry_of, Subtrees}
-use Rattle.reach_slots.proofs.Placing.{Stage, PlaceTables, stage-first, stage-last, tables-next, root-fits, stage-root, child-inside, child_fits, stage-child}
+use Rattle.reach_slots.proofs.Placing.{stage-first, stage-last, tables-next, root-fits, stage-root, child-inside, child_fits, stage-child}
 use Rattle.reach_slots.proofs.layout.place_subtrees.Goals as goal
 
 pub loop-x-init : goal.loop-x-init

@@ -1,8 +1,6 @@
 use Rattle.std.proofs.Common.{rules}
-use Prim.Native.Nat.{◌-◌, ◌≤◌}
-use lib.ListN.{length}
 use mathlib.Core.List.{[]}
-use Rattle.reach_slots.proofs.Summing.{Summed, summed-first, summed-subtrees, keep-fits, keep-root, keep-child}
+use Rattle.reach_slots.proofs.Summing.{summed-first, summed-subtrees, keep-fits, keep-root, keep-child}
 use native.Mathlib.Nat.{le_antisymm}
 use Rattle.reach_slots.proofs.layout.sum_subtrees.Goals as goal
 

@@ -1,8 +1,7 @@
 use Prim.Native.Nat.{◌-◌, ◌≤◌}
 use lib.ListN.{length}
 use mathlib.Core.List.{[]}
-use Rattle.reach_slots.proofs.Summing.{Summed, summed-first, summed-subtrees, keep-fits, keep-root, keep-child}
-use native.Mathlib.Nat.{le_antisymm}
+use Rattle.reach_slots.proofs.Summing.{Summed}
 use Rattle.reach_slots.proofs.layout.sum_subtrees.Given as goal
 
 abbrev pub invariant-loop-x : goal.invariant-loop-x

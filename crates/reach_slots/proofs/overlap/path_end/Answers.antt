@@ -1,6 +1,6 @@
 use native.Mathlib.Omega.{arith}
-use mathlib.Core.Path.{◌≡◌, refl, sym, ◌∙◌}
-use Prim.Native.Nat.{ℕ, ◌-◌, ◌<◌}
+use mathlib.Core.Path.{refl, sym, ◌∙◌}
+use Prim.Native.Nat.{ℕ, ◌<◌}
 use lib.ListN.{length, set, length-set}
 use mathlib.Core.List.{List}
 use Rattle.reach_slots.specs.Jumps.{Jumps, Under}

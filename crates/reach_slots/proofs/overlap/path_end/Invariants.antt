@@ -1,10 +1,9 @@
-use native.Mathlib.Omega.{arith}
-use mathlib.Core.Path.{◌≡◌, refl, sym, ◌∙◌}
+use mathlib.Core.Path.{◌≡◌}
 use Prim.Native.Nat.{ℕ, ◌-◌, ◌<◌}
-use lib.ListN.{length, set, length-set}
+use lib.ListN.{length}
 use mathlib.Core.List.{List}
 use Rattle.reach_slots.specs.Jumps.{Jumps, Under}
-use Rattle.reach_slots.proofs.Climbing.{Stands, stays, stands-first, stands-next, stands-end, stands-halve}
+use Rattle.reach_slots.proofs.Climbing.{Stands}
 use Rattle.reach_slots.proofs.overlap.path_end.Given as goal
 
 abbrev pub invariant-loop-ancestor : goal.invariant-loop-ancestor

@@ -1,12 +1,10 @@
 use Rattle.std.proofs.Common.{rules}
 use native.Mathlib.Omega.{arith}
-use mathlib.Core.Path.{◌≡◌, refl, sym, ap, ◌∙◌}
-use mathlib.Core.Logic.{⊎_elim}
-use Prim.Native.Nat.{ℕ, ◌-◌, ◌≤◌}
+use mathlib.Core.Path.{refl, sym, ap, ◌∙◌}
+use Prim.Native.Nat.{ℕ}
 use lib.ListN.{length, length-set}
 use mathlib.Core.List.{List}
 use Rattle.game.specs.Edge.{Edge}
-use Rattle.reach_slots.specs.Visit.{Slotted, Empty}
 use Rattle.reach_slots.proofs.Turns.{Slot, slot-mark, slot-first, slot-other}
 use Rattle.reach_slots.proofs.Visiting.{Counting, counting-first, slot-inside, path-under, overlap-fits, counting-step, visited-last}
 use Rattle.reach_slots.proofs.overlap.visit.Goals.{Joined-k-stop, else-k-stop, then-k-stop}
@@ -26,7 +24,7 @@ slot c d =
     let m = d.slotted.marked in
     let h = c.loop-k-test.true in
     elim c.if-k-stop.branch [
-      then-k-stop w ↦ slot-first l h m d.turn w.if-k-stop.true c.read_at-y.ensures w.read_at.ensures w.read_at-y-then-k-stop.ensures w.u-is w.stop-is w.y-is
+      | then-k-stop w ↦ slot-first l h m d.turn w.if-k-stop.true c.read_at-y.ensures w.read_at.ensures w.read_at-y-then-k-stop.ensures w.u-is w.stop-is w.y-is
       | else-k-stop w ↦ slot-other l h m d.turn w.if-k-stop.false c.read_at-y.ensures w.u-is w.stop-is w.y-is
     ]
 

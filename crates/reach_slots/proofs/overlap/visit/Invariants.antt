@@ -1,13 +1,10 @@
-use native.Mathlib.Omega.{arith}
-use mathlib.Core.Path.{◌≡◌, refl, sym, ap, ◌∙◌}
-use mathlib.Core.Logic.{⊎_elim}
+use mathlib.Core.Path.{◌≡◌}
 use Prim.Native.Nat.{ℕ, ◌-◌, ◌≤◌}
-use lib.ListN.{length, length-set}
+use lib.ListN.{length}
 use mathlib.Core.List.{List}
 use Rattle.game.specs.Edge.{Edge}
 use Rattle.reach_slots.specs.Visit.{Slotted, Empty}
-use Rattle.reach_slots.proofs.Turns.{Slot, slot-mark, slot-first, slot-other}
-use Rattle.reach_slots.proofs.Visiting.{Counting, counting-first, slot-inside, path-under, overlap-fits, counting-step, visited-last}
+use Rattle.reach_slots.proofs.Visiting.{Counting}
 use Rattle.reach_slots.proofs.overlap.visit.Given as goal
 
 abbrev pub invariant-loop-k : goal.invariant-loop-k

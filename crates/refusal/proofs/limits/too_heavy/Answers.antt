@@ -1,8 +1,5 @@
 use Rattle.std.proofs.Common.{rules}
-use mathlib.Core.Path.{◌≡◌, sym, ◌∙◌}
-use Prim.Native.Nat.{◌-◌, ◌≤◌}
-use lib.ListN.{length, drop}
-use Rattle.refusal.specs.DivisionLimits.{too_heavy}
+use mathlib.Core.Path.{sym, ◌∙◌}
 use Rattle.refusal.proofs.DivisionLimits.{heavy-stop, heavy-on, heavy-end}
 use Rattle.refusal.proofs.limits.too_heavy.Goals as goal
 

@@ -1,8 +1,7 @@
-use mathlib.Core.Path.{◌≡◌, sym, ◌∙◌}
+use mathlib.Core.Path.{◌≡◌}
 use Prim.Native.Nat.{◌-◌, ◌≤◌}
 use lib.ListN.{length, drop}
 use Rattle.refusal.specs.DivisionLimits.{too_heavy}
-use Rattle.refusal.proofs.DivisionLimits.{heavy-stop, heavy-on, heavy-end}
 use Rattle.refusal.proofs.limits.too_heavy.Given as goal
 
 abbrev pub invariant-loop-i : goal.invariant-loop-i
