@@ -3,4 +3,4 @@ use Rattle.records.proofs.Absent.{absent-at}
 use Rattle.records.proofs.is_absent.Goals as goal
 
 pub returns : goal.returns
-returns c = absent-at _ _ (λ i. omega (arith, c.shared_slice_known-4-1.given i))
+returns c = absent-at _ _ (λ i. omega (arith, c.type_inv.bytes i))

@@ -15,7 +15,7 @@ overflow_add-sum c =
       arith,
       c.cut_reach-sum.ensures ∙ bound-term c.args.parents.now c.args.top.now c.args.reach.now c.loop-x.x c.loop-x-test.true,
       bound-term-le c.args.parents.now c.args.top.now c.args.reach.now c.loop-x.x,
-      c.shared_slice_known-in-loop-x-3-1.given c.loop-x.x,
+      c.type_inv.reach c.loop-x.x,
     )
 
 pub loop-x-preserved : goal.loop-x-preserved
@@ -26,7 +26,7 @@ loop-x-preserved c = (
     arith,
     c.cut_reach-sum.ensures ∙ bound-term c.args.parents.now c.args.top.now c.args.reach.now c.loop-x.x c.loop-x-test.true,
     bound-term-le c.args.parents.now c.args.top.now c.args.reach.now c.loop-x.x,
-    c.shared_slice_known-in-loop-x-3-1.given c.loop-x.x,
+    c.type_inv.reach c.loop-x.x,
   ),
 )
 

@@ -10,14 +10,14 @@ pub loop-x-init : goal.loop-x-init
 loop-x-init c = (omega arith, sym (sum-none _), omega arith)
 
 pub overflow_add-sum : goal.overflow_add-sum
-overflow_add-sum c = omega (arith, c.shared_slice_known-in-loop-x-1.given c.loop-x.x, c.shared-sum.ensures)
+overflow_add-sum c = omega (arith, c.type_inv.block_count c.loop-x.x, c.shared-sum.ensures)
 
 pub loop-x-preserved : goal.loop-x-preserved
 unfolding volume_term
 loop-x-preserved c = (
   omega arith,
   sum_step _ c.loop-x.x c.loop-x.invariant.1 c.shared-sum.ensures,
-  omega (arith, c.shared_slice_known-in-loop-x-1.given c.loop-x.x, c.shared-sum.ensures),
+  omega (arith, c.type_inv.block_count c.loop-x.x, c.shared-sum.ensures),
 )
 
 pub returns : goal.returns
