@@ -42,7 +42,7 @@ GROUPS = [
     Group("Relabel", "Orders, and edges translated by one.", contracts="relabel::relabel"),
     Group("Index", "The neighbours of each vertex, kept beside a list of edges, and queries for them.",
           contracts="index::index query::query",
-          laws={"index-queries": "query/proofs/Queries.antt", "two-runs": "query/proofs/Runs.antt",
+          laws={"index-queries": "query/proofs/Queries.antt", "two_runs": "query/proofs/Runs.antt",
                 "index-afresh": "query/proofs/Afresh.antt"}),
     Group("Divide", "Cutting a forest into groups, packing them into blocks, and what is claimed of the result.",
           contracts="divide::divide", laws={"divide-division": "divide/proofs/Division.antt"}),
@@ -57,8 +57,8 @@ GROUPS = [
     Group("Separate", "The vertices above both of two, and that every walk from one to the other passes one of them.",
           contracts="separate::separate",
           laws={"separate-separates": "separate/proofs/Separation.antt", "passes": "separate/specs/Separates.antt",
-                "no-walk": "separate/specs/Separates.antt", "none-apart": "separate/specs/Separates.antt",
-                "apart-none": "separate/specs/Separates.antt"}),
+                "no_walk": "separate/specs/Separates.antt", "none_apart": "separate/specs/Separates.antt",
+                "apart_none": "separate/specs/Separates.antt"}),
     Group("C's cells", "A call's answer as C takes it: the number, and values in cells.", contracts="exports::*"),
     Group("The program's text", "What the files of a run say, what it is refused for, and every line that it prints.",
           contracts="run::run blocks::*", laws={"run-front": "run/proofs/Front.antt"}),
@@ -86,24 +86,30 @@ Assumed besides:"""
 ASSUMED = [
     "the toolchain: its checker, and the compiler's back end;",
     "its library, whose names (the last section) mean what the library says;",
-    """for the program `blocks`, the C library's functions, as `rt`'s libraries state them, and what `main` does itself:
-    it reads the three files whole, up to their fronts, and prints the text once;""",
+    """for the program `blocks`, the files and the output of the toolchain's std, and the C library's functions below
+    them, as the toolchain states both; and what `main` does itself: it reads the three files whole, up to their fronts,
+    and prints the text once;""",
     """at the boundary, a host that lends tables as long as it says, and disjoint: one that is written overlaps no
     other.""",
 ]
 
-LIBRARY = """The toolchain brings these names. They are not followed, and mean what its library says. `getD xs i d` is
-the entry of `xs` at place `i`, or `d` behind its end; `now` is what a table holds, where a contract speaks of it."""
+LIBRARY = """The toolchain brings these names. They are not followed, and mean what its library says. `get_or xs i d`
+is the entry of `xs` at place `i`, or `d` behind its end. Of a table that a contract speaks of, `xs.now` is what it
+holds, and `xs.old` and `xs.new` are what one that is written holds before and after the call; `result` is the
+answer."""
 
 # Files of computed examples: the checker computes them, so that they show what the definitions give.
 EXAMPLES = {"Paper", "Example", "Examples", "Case"}
 
 # The crates of the toolchain that contracts speak of; their names are the library's, as those of mathlib are.
-TOOLCHAIN = {"io", "os", "libc"}
+TOOLCHAIN = {"std"}
 
 # What antt has without a `use`: its grammar, and the names of its own.
 GRAMMAR = set(": = → λ let in record where do ← _".split())
-OWN = set("Type Unit tt ⊥ × now".split())
+OWN = set("Type Unit tt ⊥ ×".split())
+
+# What the places of an operator's operands are in its name, as in ◌+◌.
+OPERAND = "◌"
 
 
 class Broken(Exception):
@@ -140,10 +146,10 @@ class Declaration:
 
 # --- antt: tokens, bound names, declarations ---
 
-WORD = r"[^\s(){};,.«»⟦⟧⌜⌝\"]+"
+WORD = r"[^\s(){};,.«»\"]+"
 TOKEN = re.compile(rf"""
-    "(?:[^"\\]|\\.)*" | «[^»]*» | ⟦[^⟧]*⟧    # texts, and the code's own names: no antt is in them
-    | (?<![^\s(])\.{WORD}                    # the field of a record, which the record's type tells
+    "(?:[^"\\]|\\.)*" | «[^»]*»(?:\.{WORD})*  # texts, and the code's own names: no antt is in them
+    | (?<![^\s()])(?:\.{WORD})+             # the field of what stands in brackets, which its type tells
     | (?P<token>{WORD}(?:\.{WORD})* | [(){{}};,.])""", re.VERBOSE)
 COMMENT = re.compile(r"(^|\s)--(\s.*)?$")
 HIDDEN = re.compile(r"(pub )?(use|mod) |infix[lr]? |unfolding ")
@@ -170,9 +176,14 @@ def is_label(tokens, at):
     return at > 0 and tokens[at - 1] in "{;" and tokens[at + 1:at + 2] == ["="]
 
 
+def owner(token):
+    """Of `x.f` x, whose field or member f is."""
+    return token.partition(".")[0]
+
+
 def walked(tokens, bound=()):
     """The names that are free in a piece of antt, and those that are bound at its end. A group `(x : T)` and a λ bind
-    up to the end of the bracket around them, a `let` from its `in` on."""
+    up to the end of the bracket around them, a `let` from its `in` on. Where x is bound, so is `x.f`."""
     free, scopes, groups, lambdas, lets, letting = [], [set(bound)], [], [], [], False
     at = 0
     while at < len(tokens):
@@ -199,7 +210,7 @@ def walked(tokens, bound=()):
             lets[-1].append(token)
         elif lambdas[-1:] == [len(scopes)]:
             scopes[-1].add(token)
-        elif token not in scopes[-1] and not is_label(tokens, at):
+        elif owner(token) not in scopes[-1] and not is_label(tokens, at):
             free.append(token)
         at += 1
     if lambdas or lets or groups:
@@ -312,18 +323,29 @@ def closing(text, at):
     raise Broken(f"no bracket closes this one: {text[at:at + 60]}")
 
 
+CLAUSE = re.compile(r"(requires|ensures)\*?( \w+)?\s*$")
+CONSTANT = re.compile(r"\b[A-Z][A-Z0-9_]*\b")
+
+
+def constants(text):
+    """The constants of a file of code, its own and those that it uses from others."""
+    named = re.findall(r"^(?:pub )?const (\w+)|^use ([^;]+);", text, re.MULTILINE)
+    return {word for names in named for name in names for word in CONSTANT.findall(name)}
+
+
 def contracts(text):
-    """Each function of a file of code: its name, its parameters, and the texts of its `requires` and `ensures`."""
+    """Each function of a file of code: its name, what its contract takes from the code (the parameters, the result, and
+    constants), and the texts of its `requires` and `ensures`."""
     text = CODE_COMMENT.sub("", text)
     for found in re.finditer(r"\bfn (\w+)", text):
         start = text.index("(", found.end())
         end = closing(text, start)
-        parameters = {"self", *re.findall(r"(\w+)\s*:", text[start:end])}
+        bound = {"self", "result", *re.findall(r"(\w+)\s*:", text[start:end]), *constants(text)}
         parts = []
-        while (brace := text.find("{", end)) > 0 and text[end:brace].split()[-1:] in (["requires"], ["ensures"]):
+        while (brace := text.find("{", end)) > 0 and CLAUSE.search(text, end, brace):
             end = closing(text, brace)
             parts.append(text[brace + 1:end])
-        yield found[1], parameters, parts
+        yield found[1], bound, parts
 
 
 def code_types(text):
@@ -338,7 +360,7 @@ def code_types(text):
 
 # --- the tree: what names mean, and where they lead ---
 
-PROJECT = re.compile(r"Rattle·(\w+)(?:·specs|·proofs)?\.(specs|proofs)\.(.+)")
+PROJECT = re.compile(r"Rattle\.(\w+)\.(specs|proofs)\.(.+)")
 USE = re.compile(r"^(?:pub |ghost )?use ([^\s{]+?)(?:\.\{([^}]*)\}| as (\S+))", re.MULTILINE)
 
 
@@ -350,7 +372,7 @@ def origin(module, word):
     crate, side, path = found[1], found[2], found[3].split(".")
     if path[0] != "declared":
         return Name(side, f"{crate}/{side}/{'/'.join(path)}.antt", word)
-    path = [part for part in path[1:] if part != "the-variants"]
+    path = [part for part in path[1:] if part != "TheVariants"]
     return Name("code", f"{crate}/src/{'/'.join(path[:-1]) or 'lib'}.rt", path[-1])
 
 
@@ -372,7 +394,7 @@ class Source:
                 word, _, other = word.partition(" as ")
                 self.uses[other or word] = origin(module, word)
         visible = [*self.uses, *self.declared, *self.built]
-        self.operators = {part: word for word in visible if "_" in word for part in word.split("_") if part}
+        self.operators = {part: word for word in visible if OPERAND in word for part in word.split(OPERAND) if part}
 
     def own(self, word):
         """The declaration that a word of this file's own means: the one of that name, or the data that it builds."""
@@ -421,6 +443,8 @@ class Tree:
             return self.found(source.uses[word], where)
         if alias in source.aliases:
             return self.found(origin(source.aliases[alias], rest), where)
+        if rest:
+            return self.meant(source, alias, where)
         if token in OWN:
             return Name("library", "", token)
         return self.wrong(f"{where}: nothing says what `{token}` is")
@@ -492,8 +516,8 @@ class Tree:
             self.wrong(f"contract {call}: there is no such function in {crate}/src")
         elif not any(parts for _, _, parts in found):
             self.wrong(f"contract {call}: the function has none")
-        return {name for word, parameters, parts in found for part in parts
-                for name in self.all_meant(source, walked(tokens_of(part), parameters)[0], f"{crate}::{word}")}
+        return {name for word, bound, parts in found for part in parts
+                for name in self.all_meant(source, walked(tokens_of(part), bound)[0], f"{crate}::{word}")}
 
     def roots(self, group):
         """What the contracts and laws of a section speak of."""
@@ -547,7 +571,7 @@ def file_order(tree):
     """The place of each file: by crates.txt, down which data flows, and in a crate by specs/Lib.antt, code first."""
     text = (tree.root / "crates.txt").read_text(encoding="utf-8")
     found = []
-    for crate in re.findall(r"^(\w+):", text, re.MULTILINE):
+    for crate in re.findall(r"^(\w+)[^:#\n]*:", text, re.MULTILINE):
         found += sorted(path.relative_to(tree.crates).as_posix() for path in (tree.crates / crate / "src").glob("*.rt"))
         lib = tree.source(f"{crate}/specs/Lib.antt")
         modules = re.findall(r"^pub mod (\w+)", lib.text, re.MULTILINE) if lib else []

@@ -19,17 +19,17 @@ WRITE = "python3 docs/believe.py writes the page"
 
 # a definition in a file that the page does not list, and the places from which it is made to be reached
 NEW = "crates/start/specs/New.antt"
-DEFINED = "use Prim.Native.Nat.{ℕ}\n\nabbrev pub brandNew : ℕ\nbrandNew = 1\n"
+DEFINED = "use Rattle.std.specs.Prelude.{ℕ}\n\nabbrev pub brandNew : ℕ\nbrandNew = 1\n"
 FROM_CONTRACT = [
-    ("crates/start/src/lib.rt", r"\A", "ghost use Rattle·start·specs.specs.New.{brandNew};\n"),
-    ("crates/start/src/lib.rt", r"(?<=pub fn start)\([^{]*?(?=\s+ensures)", r"\g<0> ensures { ⌜ brandNew ≡ 1 ⌝ }"),
+    ("crates/start/src/lib.rt", r"\A", "ghost use Rattle.start.specs.New.{brandNew};\n"),
+    ("crates/start/src/lib.rt", r"(?<=pub fn start)\([^{]*?(?=\s+ensures)", r"\g<0> ensures { brandNew ≡ 1 }"),
 ]
 FROM_DEFINITION = [
-    ("crates/start/specs/Start.antt", r"\A", "use Rattle·start·specs.specs.New.{brandNew as fresh}\n"),
-    ("crates/start/specs/Start.antt", r"(?m)^(startOutcome \w+ =) ", r"\1 let one : ℕ = fresh in "),
+    ("crates/start/specs/Start.antt", r"\A", "use Rattle.start.specs.New.{brandNew as fresh}\n"),
+    ("crates/start/specs/Start.antt", r"(?m)^(start_outcome \w+ =) ", r"\1 let one : ℕ = fresh in "),
 ]
 FROM_LAW = [
-    ("crates/share/proofs/Even.antt", r"(?m)^use Rattle·", "use Rattle·start.specs.New.{brandNew}\nuse Rattle·"),
+    ("crates/share/proofs/Even.antt", r"(?m)^use Rattle\.", "use Rattle.start.specs.New.{brandNew}\nuse Rattle."),
     ("crates/share/proofs/Even.antt", r"(?m)^pub share-once : ", "pub share-once : brandNew ≡ 1 → "),
 ]
 
@@ -100,20 +100,24 @@ def broken_promises_are_told(t):
            "law share-once: `own` is defined in share/proofs/Even.antt; what a promise speaks of belongs to specs/")
     t.same(complaint([(contract, r"pub fn start\b", "pub fn begin")]),
            "contract start::start: there is no such function in start/src")
-    t.same(complaint([(contract, r"(?s)(?<=pub fn start)(.*?) ensures \{.*?⌝ \}", r"\1")]),
+    t.same(complaint([(contract, r"(?s)(?<=pub fn start)(.*?) ensures \{[^{}]*\}", r"\1")]),
            "contract start::start: the function has none")
     t.same(complaint(FROM_CONTRACT[1:]), "start::start: nothing says what `brandNew` is")
 
 
-@test(at_least=4)
+@test(at_least=6)
 def bound_names_are_not_followed(t):
-    def free(text):
-        return believe.walked(believe.tokens_of(text))[0]
+    def free(text, bound=()):
+        return [believe.owner(word) for word in believe.walked(believe.tokens_of(text), bound)[0]]
 
-    t.same(free("(x : A) {y z : B x} → (λ w. c w y) ≡ w .field"), ["A", "B", "c", "≡", "w"])
+    code = "use files::{MARKS, Kind};\nfn f(table: &[u32]) -> bool\n    requires low { 0 < x }\n    ensures { y }\n{\n}\n"
+    (name, bound, parts), = believe.contracts(code)
+    t.same(free("(x : A) {y z : B x} → (λ w. c w y) ≡ w.field"), ["A", "B", "c", "≡", "w"])
     t.same(free("let x : A = f x in x ─ 16_000"), ["A", "f", "x", "─"])
     t.same(free("record { left = right; right = (y : A) × left } \"no name\""), ["right", "A", "×", "left"])
-    t.same(free("now («edges» .entry) ≡ ⟦MARKS⟧ .entry"), ["now", "≡"])
+    t.same(free("now «edges».old ≡ MARKS", bound), ["now", "≡"])
+    t.same(free("result ≡ (g table.now).field.of", bound), ["≡", "g"])
+    t.same((name, [part.strip() for part in parts]), ("f", ["0 < x", "y"]))
 
 
 @test(at_least=30)
