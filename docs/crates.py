@@ -27,7 +27,8 @@ def listed(text):
             continue
         name, colon, rest = line.partition(":")
         if colon:
-            needs[name.strip()], about[name.strip()] = rest.partition("#")[0].split(), " ".join(said)
+            name = name.split()[0]    # a static library has a word behind its name
+            needs[name], about[name] = rest.partition("#")[0].split(), " ".join(said)
         said = []
     needs = {name: {other for other in its if other in needs} for name, its in needs.items()}
     order = []
@@ -46,7 +47,7 @@ def headings(text):
         if line.startswith("##"):
             heading = line.strip("# ")
         elif not line.startswith("#") and ":" in line:
-            above[line.partition(":")[0].strip()] = heading
+            above[line.split(":")[0].split()[0]] = heading
     return above
 
 
