@@ -1,124 +1,113 @@
-"""Reads what `rt` says. It says a good deal of each crate, and only once the crate is done; here that becomes a line
-for each crate, must-fail edit and program, with its place in the whole, and a line when a crate or an edit is begun.
-What rt says of one that fails is shown in full."""
+"""Reads what `rt ci` says. It says a good deal of each crate, once the crate is done; here that becomes a line for each
+crate, must-fail edit and program, with its place in the whole. What rt says of a crate that fails is shown in full."""
 
 import re
-import time
 from pathlib import Path
 
 from step import say
 
 ROOT = Path(__file__).resolve().parent.parent
-TARGET = ROOT / "target"
+LOG = ROOT / "target" / "log"
 
-CRATE = re.compile(r"rt: (\w+) (proved(?!,)|NOT PROVED)(.*)")
-ARCHIVE = re.compile(r"rt: target/staticlib/lib(\w+)\.a has the functions of \1 .*")
+# What is said of a crate, or of its tests, stands between these two lines. Of a crate that is kept from an earlier run,
+# or that stands on one that failed, there is the second line alone.
+HEAD = re.compile(r"== \w+(: its tests)?")
+VERDICT = re.compile(r"rt: (\w+)(: its tests are)? (proved|is kept|NOT PROVED)\b(.*)")
 EDIT = re.compile(r"rt: must-fail (\w+/\S+): (.*)")
-RUN = re.compile(r"rt: (\w+) (ran|proved, and its run FAILED)\b(.*)")
+RUN = re.compile(r"rt: (\w+)( ran\b|(?: \([^)]*\))?: (?:what )?the program )(.*)")
+OK = re.compile(r"rt: ok\b.*")
+BAD = re.compile(r", (\d+) bad\b")
 
 
 def crates():
     """The crates that crates.txt lists, each with those that it stands on."""
     lines = (line.split("#")[0].split(":") for line in (ROOT / "crates.txt").read_text().splitlines())
-    return {line[0].strip(): line[1].split() for line in lines if len(line) == 2}
+    return {line[0].split()[0]: line[1].split() for line in lines if len(line) == 2}
 
 
-def needed(names):
-    """The named crates and those that they stand on; all for no name. In the order of the list."""
+def needed(name):
+    """A crate and those that it stands on, by way of others too, in the order of the list."""
     listed = crates()
-    found, left = set(), list(names or listed)
+    found, left = {name}, [name]
     while left:
-        name = left.pop()
-        if name in listed and name not in found:
-            found.add(name)
-            left += listed[name]
-    return [name for name in listed if name in found]
+        more = [other for other in listed[left.pop()] if other in listed and other not in found]
+        found.update(more)
+        left += more
+    return [other for other in listed if other in found]
 
 
-class Proving:
-    """What a command of rt will say something of: `check` and `staticlib` with names, and `ci`, which tries edits."""
+class Places:
+    """What a command of rt says, all of it in a file of target/log, and how far it is in the whole."""
 
-    def __init__(self, command):
-        self.began = time.time()
-        self.with_edits = command[1] == "ci"
-        self.runs_programs = command[1] in ("check", "ci")
-        self.crates = needed(command[2:])
-        self.total = sum(1 + self.behind(name) for name in self.crates)
-        self.done = 0
-        self.verdicts = {}
-        self.shown = set()
-        self.held = []
-        self.path = TARGET / "log" / f"{'-'.join(command)}.txt"
-        self.log = None
-
-    def is_run(self, name):
-        return self.runs_programs and (ROOT / "crates" / name / "src" / "main.rt").exists()
-
-    def behind(self, name):
-        """How much is to come of a crate that is proved: its edits, and its run if it is a program."""
-        edits = list((ROOT / "crates" / name / "must-fail").glob("*.edit")) if self.with_edits else []
-        return len(edits) + self.is_run(name)
+    def __init__(self, name, total):
+        LOG.mkdir(parents=True, exist_ok=True)
+        self.path = LOG / name
+        self.log = open(self.path, "w", buffering=1)
+        self.total, self.done, self.held = total, 0, []
 
     def keep(self, line):
-        # rt ci removes target/ before it says anything, so the log is not made earlier
-        if self.log is None:
-            self.path.parent.mkdir(parents=True, exist_ok=True)
-            self.log = open(self.path, "w", buffering=1)
         self.log.write(line + "\n")
 
-    def place(self, line):
-        self.done += 1
+    def place(self, line, passed_over=0):
+        """Shows a line in its place, behind some that will not come."""
+        self.done += 1 + passed_over
         say(f"[{self.done}/{self.total}] {line}")
 
-    def proved(self):
-        return len(self.verdicts) == len(self.crates) and all(self.verdicts.values())
-
-    def line(self, line):
-        self.keep(line)
-        crate, archive = CRATE.fullmatch(line), ARCHIVE.fullmatch(line)
-        edit, run = EDIT.fullmatch(line), RUN.fullmatch(line)
-        if run:
-            self.place(f"{run[1]} {run[2]}{run[3]}")
-        elif crate:
-            self.crate(crate[1], crate[2] == "proved", crate[3])
-        elif archive:
-            self.crate(archive[1], True, f", and target/staticlib/lib{archive[1]}.a is made")
-        elif edit:
-            self.place(f"must-fail {edit[1]}: {edit[2]}")
-        elif len(self.verdicts) < len(self.crates):
-            self.held.append(line)
-        else:
-            say(line)
-
-    def crate(self, name, proved, more):
-        """A verdict. What rt said before it belongs to the crate, and is shown if that is not proved."""
-        if not proved:
-            self.show_held()
-        self.held = []
-        self.verdicts[name] = proved
-        if not proved:
-            self.done += self.behind(name)
-        elif "unchanged" in more:
-            self.done += self.is_run(name)  # it is not run again
-        self.place(f"{name} {'proved' if proved else 'NOT PROVED'}{more}")
-
     def show_held(self):
-        """Shows what was said of no crate yet, as where rt stops early."""
+        """Shows what was said of a crate that is not proved, or of which there is no verdict."""
         for held in self.held:
             say(held)
         self.held = []
 
-    def show_begun(self):
-        """Says which crates and edits were begun since the last time: rt opens a file for what is said of each."""
-        begun = []
-        for file in [*TARGET.glob("log/*.say"), *TARGET.glob("must-fail/*/*.out")]:
-            name = file.stem if file.suffix == ".say" else f"must-fail {file.parent.name}/{file.stem}"
-            try:
-                fresh = file.stat().st_mtime >= self.began and file.stat().st_size == 0
-            except FileNotFoundError:
-                continue
-            if fresh and name not in self.shown and (name in self.crates or " " in name):
-                self.shown.add(name)
-                begun.append(name)
-        if begun:
-            say(f"    begun: {', '.join(sorted(begun))}")
+
+class Proving(Places):
+    """What `rt ci` says."""
+
+    def __init__(self):
+        self.crates = list(crates())
+        super().__init__("ci.txt", sum(1 + self.behind(name) for name in self.crates))
+        self.verdicts, self.ran, self.holding, self.ok = {}, set(), False, None
+
+    @staticmethod
+    def behind(name):
+        """How much is to come of a crate that is proved: its edits, and its run if it is a program."""
+        folder = ROOT / "crates" / name
+        return len(list(folder.glob("must-fail/*.edit"))) + (folder / "src" / "main.rt").exists()
+
+    def line(self, line):
+        self.keep(line)
+        verdict, edit, run = VERDICT.fullmatch(line), EDIT.fullmatch(line), RUN.fullmatch(line)
+        if HEAD.fullmatch(line):
+            self.holding = True
+        elif verdict:
+            self.verdict(*verdict.groups())
+        elif self.holding:
+            self.held.append(line)
+        elif edit:
+            self.place(f"must-fail {edit[1]}: {edit[2]}")
+        elif run and run[1] not in self.ran:
+            # a program is run twice, as two compilers build it, and has one place
+            self.ran.add(run[1])
+            self.place(line.removeprefix("rt: "))
+        else:
+            self.ok = line if OK.fullmatch(line) else self.ok
+            say(line)
+
+    def verdict(self, name, tests, verdict, more):
+        failed = verdict == "NOT PROVED"
+        if failed:
+            self.show_held()
+        self.held, self.holding = [], False
+        # nothing more is said of a crate that failed
+        passed_over = self.behind(name) if failed and self.verdicts.get(name, True) else 0
+        self.verdicts[name] = not failed and self.verdicts.get(name, True)
+        if not tests:
+            self.place(f"{name} is kept from an earlier run" if verdict == "is kept" else f"{name} {verdict}{more}", passed_over)
+        elif failed:
+            self.done += passed_over
+            say(f"{name}: its tests are NOT PROVED")
+
+    def unsaid(self):
+        """How much failed that rt does not count: edits that no longer fit, or that it never said that all is well."""
+        bad = BAD.search(self.ok) if self.ok else None
+        return int(bad[1]) if bad else int(not self.ok)

@@ -1,10 +1,9 @@
-"""Commands that run beside each other, and what they say line by line."""
+"""Commands, and what they say line by line."""
 
 import os
 import re
 import signal
 import subprocess
-import threading
 
 
 def say(line):
@@ -12,29 +11,31 @@ def say(line):
 
 
 class Step:
-    """A command that runs beside others. Its lines go to a queue, as pairs of the step and a line; None is its end."""
+    """A command that runs until it ends or is stopped: `with Step(..) as step`. Its lines are read as they come."""
 
-    def __init__(self, command, folder, lines, environment=None):
+    def __init__(self, command, folder):
         self.last = ""
-        self.lines = lines
         # a session of its own, so that it can be stopped with all that it started
         self.process = subprocess.Popen(command, cwd=folder, stdout=subprocess.PIPE, stderr=subprocess.STDOUT,
-                                        text=True, errors="replace", env=environment, start_new_session=True)
-        threading.Thread(target=self.read, daemon=True).start()
+                                        text=True, errors="replace", start_new_session=True)
 
-    def read(self):
-        for line in self.process.stdout:
-            self.lines.put((self, line.rstrip("\n")))
-        self.process.wait()
-        self.lines.put((self, None))
+    def __enter__(self):
+        return self
 
-    def stop(self):
+    def __exit__(self, *_):
         if self.process.poll() is None:
             os.killpg(self.process.pid, signal.SIGTERM)
+
+    def lines(self):
+        """Each line, until the command has ended."""
+        for line in self.process.stdout:
+            self.last = line.rstrip("\n")
+            yield self.last
+        self.process.wait()
 
     def counts(self):
         """What its last line says passed and failed. A step that ends otherwise, or with another status than that line
         has, failed."""
         match = re.fullmatch(r"(\d+) passed, (\d+) failed", self.last)
         passed, failed = (int(match[1]), int(match[2])) if match else (0, 1)
-        return passed, failed or (self.process.returncode != 0)
+        return passed, failed or int(self.process.returncode != 0)

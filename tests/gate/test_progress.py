@@ -1,5 +1,5 @@
-"""How far rt is, as gate/progress.py and `make` show it: a line for each crate, edit and run, whose places go up to the
-whole and no further; and all that rt says where it fails."""
+"""How far rt is, as the gate, gate/progress.py and `make` show it: a line for each crate, edit and run, whose places go
+up to the whole and no further; and all that rt says where it fails."""
 
 import re
 import shutil
@@ -8,48 +8,84 @@ import sys
 from support.harness import test
 from support.repository import a_repository
 
-FRESH = """fn low::f: proved
-rt: low proved (1 s)
-rt: middle proved (2 s)
+FRESH = """rt: chose --jobs 2 for low
+fn low::f: proved
+crate low: modules loaded=0 checked=3
+logic=proved functions=1
+rt: chose --jobs 2 for middle
+crate middle: modules loaded=0 checked=3
+logic=proved functions=1
+rt: chose --jobs 2 for blocks
 fn blocks::main: proved
-rt: blocks proved (3 s)
-rt: blocks ran as nobody, and wrote what its file 'stdout' has (0 s)
-rt: ok, 3 crates proved
+crate blocks: modules loaded=0 checked=3
+logic=proved functions=1
+refused 1 0
 """
-UNCHANGED = "".join(f"rt: {name} proved (unchanged since it was last proved)\n" for name in ("low", "middle", "blocks"))
+UNCHANGED = "refused 1 0\n"
 
-ARCHIVE = """rt: low proved (unchanged since it was last proved)
+ARCHIVE = """rt: chose --jobs 2 for middle
 fn middle::f: proved
-rt: middle proved (2 s)
-fn exports::niqastul_start: proved
-rt: target/staticlib/libexports.a has the functions of exports that are marked #[no_mangle] pub extern "C"
+crate middle: modules loaded=0 checked=3
+logic=proved functions=1
+rt: chose --jobs 2 for exports_c
+fn exports_c::niqastul_start: proved
+crate exports_c: modules loaded=0 checked=3
+logic=proved functions=1
 """
-NO_ARCHIVE = """rt: low proved (1 s)
-crates/middle/proofs/f/Proof.antt:7:1: error: not so
-rt: middle NOT PROVED (exit 1, 2 s)
-rt: FAILED: middle
+NO_ARCHIVE = """rt: chose --jobs 2 for low
+crate low: modules loaded=0 checked=3
+logic=proved functions=1
+rt: chose --jobs 2 for middle
+proofs/f/Answers.antt:7:1: error: not so
+logic=not-proved functions=1
 """
-NO_EXPORTS = """rt: low proved (1 s)
-rt: middle proved (1 s)
-crates/exports/proofs/f/Proof.antt:7:1: error: not so
+NO_EXPORTS = """rt: chose --jobs 2 for low
+crate low: modules loaded=0 checked=3
+logic=proved functions=1
+rt: chose --jobs 2 for exports_c
+proofs/f/Answers.antt:7:1: error: not so
 """
 
-GATE = """rt: low proved (1 s)
-rt: middle proved (1 s)
-rt: exports proved (1 s)
-rt: blocks proved (1 s)
-rt: must-fail low/one: refused, as it must be (1 s)
-rt: must-fail low/other: NOT REFUSED: the crate is still proved with this edit (1 s)
-rt: blocks proved, and its run FAILED (0 s)
-rt: FAILED: low/other blocks
+GATE = """== low
+rt: low proved
+== middle
+rt: middle proved
+== exports_c
+rt: exports_c proved
+== blocks
+rt: blocks proved
+rt: must-fail low/one: refused, as it must be
+rt: must-fail low/other: NOT REFUSED: the crate is still proved with this edit
+rt: blocks: the program ended with status 1, and not 0; it said: no
+rt: blocks: what the program wrote, out/stdout, is not what its file stdout has: they differ first at byte 1, line 1
+rt: FAILED: low/other blocks (run)
 """
-NOT_PROVED = "rt: low NOT PROVED (exit 1, 1 s)\n" + "".join(
-    f"rt: {name} NOT PROVED: its dependency low is not proved\n" for name in ("middle", "exports", "blocks"))
+KEPT = """rt: low is kept: an earlier run on this machine proved the same files over the same libraries
+== middle
+rt: middle proved
+== middle: its tests
+crates/middle/src/lib.rt:9:1: error: not so
+rt: middle: its tests are NOT PROVED
+rt: exports_c is kept: an earlier run on this machine proved the same files over the same libraries
+rt: blocks is kept: an earlier run on this machine proved the same files over the same libraries
+rt: low: 2 of its 2 must-fail edits were tried by an earlier run on this machine
+rt: must-fail low/one: refused, as it must be
+rt: must-fail low/other: refused, as it must be
+rt: blocks ran, and wrote what its file stdout has
+rt: blocks ran (built by Rattle's own compiler), and wrote what its file stdout has
+"""
+NOT_PROVED = "== low\nrt: low NOT PROVED\n" + "".join(
+    f"rt: {name} NOT PROVED: its library low failed\n" for name in ("middle", "exports_c", "blocks"))
+
+# the gate without its other steps
+CI = "import sys; sys.path.insert(0, 'gate'); import gate; gate.prove()"
 
 
 def shown(repository, command, said, status=0):
     """What is shown of a command of rt that says so."""
-    return repository.run([sys.executable, "-B", "gate/progress.py", "rt", *command.split()], said, status)
+    shows = ["-c", CI] if command == "ci" else ["gate/progress.py", "rt", *command.split()]
+    status, lines = repository.run([sys.executable, "-B", *shows], said, status)
+    return status, [re.sub(r"\(\d+ s\)", "(.. s)", line) for line in lines]
 
 
 def places(lines):
@@ -57,15 +93,16 @@ def places(lines):
     return [tuple(map(int, place.groups())) for line in lines if (place := re.match(r"\[(\d+)/(\d+)\] ", line))]
 
 
-@test(at_least=10)
+@test(at_least=12)
 def whole(t):
     """The places rise to the last one, whatever is left out: a run or edits of what is unchanged or not proved."""
     with a_repository() as repository:
         for command, said, wanted in (
-            ("check blocks", FRESH, [1, 2, 3, 4]),
-            ("check blocks", UNCHANGED, [1, 2, 4]),
-            ("staticlib exports", ARCHIVE, [1, 2, 3]),
+            ("run blocks", FRESH, [1, 2, 3, 4]),
+            ("run blocks", UNCHANGED, [1, 2, 4]),
+            ("lib exports_c", ARCHIVE, [1, 2, 3]),
             ("ci", GATE, [1, 2, 3, 4, 5, 6, 7]),
+            ("ci", KEPT, [1, 2, 3, 4, 5, 6, 7]),
             ("ci", NOT_PROVED, [3, 4, 5, 7]),
         ):
             status, lines = shown(repository, command, said)
@@ -76,19 +113,23 @@ def whole(t):
 @test(at_least=2)
 def lines(t):
     with a_repository() as repository:
-        t.same(shown(repository, "check blocks", FRESH)[1], [
+        t.same(shown(repository, "run blocks", FRESH)[1], [
             "3 crates to prove: low middle blocks",
-            "[1/4] low proved (1 s)",
-            "[2/4] middle proved (2 s)",
-            "[3/4] blocks proved (3 s)",
-            "[4/4] blocks ran as nobody, and wrote what its file 'stdout' has (0 s)",
-            "rt: ok, 3 crates proved",
+            "    begun: low",
+            "[1/4] low proved (.. s)",
+            "    begun: middle",
+            "[2/4] middle proved (.. s)",
+            "    begun: blocks",
+            "[3/4] blocks proved (.. s)",
+            "[4/4] blocks ran, and crates/blocks/out/blocks is made",
         ])
-        t.same(shown(repository, "staticlib exports", ARCHIVE)[1], [
-            "3 crates to prove: low middle exports",
-            "[1/3] low proved (unchanged since it was last proved)",
-            "[2/3] middle proved (2 s)",
-            "[3/3] exports proved, and target/staticlib/libexports.a is made",
+        t.same(shown(repository, "lib exports_c", ARCHIVE)[1], [
+            "3 crates to prove: low middle exports_c",
+            "    begun: middle",
+            "[1/3] low: nothing to prove",
+            "[2/3] middle proved (.. s)",
+            "    begun: exports_c",
+            "[3/3] exports_c proved, and crates/exports_c/out/libexports_c.a is made",
         ])
 
 
@@ -97,7 +138,7 @@ def failed(t):
     """Where rt fails, so does this; what rt says of the crate is shown at once, and at the end all that it said."""
     with a_repository() as repository:
         for said in (NO_ARCHIVE, NO_EXPORTS):
-            status, lines = shown(repository, "staticlib exports", said, status=1)
+            status, lines = shown(repository, "lib exports_c", said, status=1)
             error = next(line for line in said.splitlines() if "error" in line)
             t.same(status, 1, *lines)
             t.same(lines.count(error), 2, *lines)
@@ -108,7 +149,7 @@ def without_python(repository):
     """A folder of programs with all that make needs but python3."""
     tools = repository.path / "tools"
     tools.mkdir()
-    for tool in ("make", "sh", "find", "mkdir", "cp", "cc", "ld", "ar", "ln", "cat"):
+    for tool in ("make", "sh", "find", "mkdir", "cp", "cc", "ld", "ar", "ln", "cat", "touch"):
         (tools / tool).symlink_to(shutil.which(tool))
     return str(tools)
 
@@ -128,6 +169,7 @@ def made(t):
         status, lines = repository.run("make", "rt was run again", status=1)
         t.same((status, places(lines)), (0, []), *lines)
         shutil.rmtree(repository.path / "target")
+        shutil.rmtree(repository.path / "crates" / "exports_c" / "out")
         status, lines = repository.run("make", ARCHIVE, path=without_python(repository))
         t.true(status == 0 and library.exists(), *lines)
         t.true(ARCHIVE in "\n".join(lines), *lines)

@@ -14,20 +14,21 @@ low:
 # in between
 middle: low
 # what is made a library of
-exports: middle low
+exports_c staticlib: middle low
 # a program
-blocks: middle low io
+blocks: middle low
 """
 
-# it says what is in a file, makes an archive as `rt staticlib exports` does, and ends with a status
+# it says what is in a file, makes what `rt lib` and `rt run` make in the folder of a crate, and ends with a status
 RT = """#!/bin/sh
+top={0}
 case $1 in
-version) exec cat toolchain.txt ;;
-fmt) exit ;;
-staticlib) mkdir -p target/staticlib && ar rc target/staticlib/libexports.a ;;
+version) exec cat $top/toolchain.txt ;;
+lib) mkdir -p out && ar rc out/libexports_c.a ;;
+run) mkdir -p out && echo program >out/blocks ;;
 esac
-cat said
-exit $(cat status)
+cat $top/said
+exit $(cat $top/status)
 """
 
 
@@ -39,9 +40,10 @@ class Repository:
         self.write("crates.txt", CRATES)
         self.write("toolchain.txt", "some toolchain\n")
         self.write("crates/blocks/src/main.rt", "")
+        self.write("crates/exports_c/src/lib.rt", "")
         for edit in ("one", "other"):
             self.write(f"crates/low/must-fail/{edit}.edit", "")
-        self.write_program("bin/rt", RT)
+        self.write_program("bin/rt", RT.format(self.path))
 
     def write(self, name, text):
         path = self.path / name
