@@ -59,7 +59,7 @@ GROUPS = [
           laws={"separate-separates": "separate/proofs/Separation.antt", "passes": "separate/specs/Separates.antt",
                 "no_walk": "separate/specs/Separates.antt", "none_apart": "separate/specs/Separates.antt",
                 "apart_none": "separate/specs/Separates.antt"}),
-    Group("C's cells", "A call's answer as C takes it: the number, and values in cells.", contracts="exports::*"),
+    Group("C's cells", "A call's answer as C takes it: the number, and values in cells.", contracts="exports::* exports_c::*"),
     Group("The program's text", "What the files of a run say, what it is refused for, and every line that it prints.",
           contracts="run::run blocks::*", laws={"run-front": "run/proofs/Front.antt"}),
     Group("Histories", "Worlds of nets and files, the book of edges, and what holds after every list of calls.",
