@@ -110,8 +110,8 @@ def bound_names_are_not_followed(t):
     def free(text, bound=()):
         return [believe.owner(word) for word in believe.walked(believe.tokens_of(text), bound)[0]]
 
-    code = "use files::{MARKS, Kind};\nfn f(table: &[u32]) -> bool\n    requires low { 0 < x }\n    ensures { y }\n{\n}\n"
-    (name, bound, parts), = believe.contracts(code)
+    head = "use files::{MARKS, Kind};\nfn f(table: &[u32]) -> bool\n"
+    (name, bound, parts), = believe.contracts(head + "    requires low { 0 < x }\n    ensures { y }\n{\n}\n")
     t.same(free("(x : A) {y z : B x} → (λ w. c w y) ≡ w.field"), ["A", "B", "c", "≡", "w"])
     t.same(free("let x : A = f x in x ─ 16_000"), ["A", "f", "x", "─"])
     t.same(free("record { left = right; right = (y : A) × left } \"no name\""), ["right", "A", "×", "left"])
