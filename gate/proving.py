@@ -101,8 +101,10 @@ class Proving(Places):
         # nothing more is said of a crate that failed
         passed_over = self.behind(name) if failed and self.verdicts.get(name, True) else 0
         self.verdicts[name] = not failed and self.verdicts.get(name, True)
-        if not tests:
-            self.place(f"{name} is kept from an earlier run" if verdict == "is kept" else f"{name} {verdict}{more}", passed_over)
+        if verdict == "is kept":
+            self.place(f"{name} is kept from an earlier run")
+        elif not tests:
+            self.place(f"{name} {verdict}{more}", passed_over)
         elif failed:
             self.done += passed_over
             say(f"{name}: its tests are NOT PROVED")
