@@ -1,9 +1,9 @@
 use native.Mathlib.Omega.{arith}
 use mathlib.Core.Path.{◌≡◌}
-use mathlib.Core.Logic.{◌⊎◌, inl, inr}
+use mathlib.Core.Logic.{◌≢◌, ◌⊎◌, inl, inr}
 use Prim.Native.Nat.{◌<◌, ◌≤◌}
 use Rattle.game.specs.Game.{absent}
-use Rattle.cut.proofs.Turns.{restart-less, turn-begin, turn_inside, turn-few, turn-restart, turn-none, turn-found, turn-cut, turn-done, turn-less, scan-begin, at-inside, at_up, scan-taken, scan-passed, cut_inside, cut-least}
+use Rattle.cut.proofs.Turns.{Found, restart-less, turn-begin, turn_inside, turn-few, turn-restart, turn-none, turn-found, turn-cut, turn-done, turn-less, scan-begin, at-inside, at_up, scan-taken, scan-passed, cut_inside, cut-least}
 use Rattle.cut.proofs.trim.Goals.{Joined-found-most-2, then-loop-child-test+else-found-most, else-loop-child-test, then-found-most-2+else-start-first, else-found-most-2, then-found-here, else-found-here}
 use Rattle.cut.proofs.trim.Goals as goal
 
@@ -21,6 +21,11 @@ seen c =
       | then-found-most-2+else-start-first w ↦ inr (w.if-found-most-2.true, w.if-start-first.false)
       | else-found-most-2 w ↦ inl w.if-found-most-2.false
     ]
+
+-- what it has found
+heaviest-found : (c : Joined-found-most-2) → c.loop-child.found ≢ c.args.floor
+    → Found c.args.carried.now c.cut.link c.args.x c.args.floor c.loop-child.heaviest c.loop-child.found
+heaviest-found c d = turn-found c.requires.loaded c.requires.candidates c.cut.invariant c.loop-child.invariant (over c) (seen c) d
 
 pub cut-init : goal.cut-init
 cut-init c = turn-begin c.requires.loaded c.requires.candidates
@@ -128,31 +133,31 @@ cut-preserved-then-start-first c =
 
 pub offset_bounds-link-at-in-cut : goal.offset_bounds-link-at-in-cut
 offset_bounds-link-at-in-cut c =
-    omega (arith, cut_inside c.requires.loaded c.requires.candidates c.cut.invariant (let at = (goal.at.offset_bounds-link-at-in-cut c).Joined-found-most-2 in turn-found c.requires.loaded c.requires.candidates c.cut.invariant c.loop-child.invariant (over at) (seen at) c.if-found-floor.false) c.if-weight-uncut.false c.wide-at-in-cut.ensures, c.requires.loaded.few, c.requires.loaded.tails, c.requires.loaded.told, c.cut.invariant.size)
+    omega (arith, cut_inside c.requires.loaded c.requires.candidates c.cut.invariant (heaviest-found (goal.at.offset_bounds-link-at-in-cut c).Joined-found-most-2 c.if-found-floor.false) c.if-weight-uncut.false c.wide-at-in-cut.ensures, c.requires.loaded.few, c.requires.loaded.tails, c.requires.loaded.told, c.cut.invariant.size)
 
 pub bounds-link-at-in-cut : goal.bounds-link-at-in-cut
 bounds-link-at-in-cut c =
-    cut_inside c.requires.loaded c.requires.candidates c.cut.invariant (let at = (goal.at.bounds-link-at-in-cut c).Joined-found-most-2 in turn-found c.requires.loaded c.requires.candidates c.cut.invariant c.loop-child.invariant (over at) (seen at) c.if-found-floor.false) c.if-weight-uncut.false c.wide-at-in-cut.ensures
+    cut_inside c.requires.loaded c.requires.candidates c.cut.invariant (heaviest-found (goal.at.bounds-link-at-in-cut c).Joined-found-most-2 c.if-found-floor.false) c.if-weight-uncut.false c.wide-at-in-cut.ensures
 
 pub overflow_sub-uncut : goal.overflow_sub-uncut
 overflow_sub-uncut c =
-    cut-least c.requires.loaded c.requires.candidates c.cut.invariant (let at = (goal.at.overflow_sub-uncut c).Joined-found-most-2 in turn-found c.requires.loaded c.requires.candidates c.cut.invariant c.loop-child.invariant (over at) (seen at) c.if-found-floor.false) c.if-weight-uncut.false c.wide-at-in-cut.ensures
+    cut-least c.requires.loaded c.requires.candidates c.cut.invariant (heaviest-found (goal.at.overflow_sub-uncut c).Joined-found-most-2 c.if-found-floor.false) c.if-weight-uncut.false c.wide-at-in-cut.ensures
 
 pub offset_bounds-next-at-in-cut : goal.offset_bounds-next-at-in-cut
 offset_bounds-next-at-in-cut c =
-    omega (arith, cut_inside c.requires.loaded c.requires.candidates c.cut.invariant (let at = (goal.at.offset_bounds-next-at-in-cut c).Joined-found-most-2 in turn-found c.requires.loaded c.requires.candidates c.cut.invariant c.loop-child.invariant (over at) (seen at) c.if-found-floor.false) c.if-weight-uncut.false c.wide-at-in-cut.ensures, c.requires.loaded.few, c.requires.loaded.tails, c.requires.loaded.told, c.cut.invariant.size)
+    omega (arith, cut_inside c.requires.loaded c.requires.candidates c.cut.invariant (heaviest-found (goal.at.offset_bounds-next-at-in-cut c).Joined-found-most-2 c.if-found-floor.false) c.if-weight-uncut.false c.wide-at-in-cut.ensures, c.requires.loaded.few, c.requires.loaded.tails, c.requires.loaded.told, c.cut.invariant.size)
 
 pub bounds-next-at-in-cut : goal.bounds-next-at-in-cut
 bounds-next-at-in-cut c =
-    omega (arith, cut_inside c.requires.loaded c.requires.candidates c.cut.invariant (let at = (goal.at.bounds-next-at-in-cut c).Joined-found-most-2 in turn-found c.requires.loaded c.requires.candidates c.cut.invariant c.loop-child.invariant (over at) (seen at) c.if-found-floor.false) c.if-weight-uncut.false c.wide-at-in-cut.ensures, c.requires.loaded.few, c.requires.loaded.tails, c.requires.loaded.told, c.cut.invariant.size)
+    omega (arith, cut_inside c.requires.loaded c.requires.candidates c.cut.invariant (heaviest-found (goal.at.bounds-next-at-in-cut c).Joined-found-most-2 c.if-found-floor.false) c.if-weight-uncut.false c.wide-at-in-cut.ensures, c.requires.loaded.few, c.requires.loaded.tails, c.requires.loaded.told, c.cut.invariant.size)
 
 pub cut-smaller : goal.cut-smaller
 cut-smaller c =
-    turn-less c.requires.loaded c.requires.candidates c.cut.invariant (let at = (goal.at.cut-smaller c).Joined-found-most-2 in turn-found c.requires.loaded c.requires.candidates c.cut.invariant c.loop-child.invariant (over at) (seen at) c.if-found-floor.false) c.if-weight-uncut.false c.wide-at-in-cut.ensures
+    turn-less c.requires.loaded c.requires.candidates c.cut.invariant (heaviest-found (goal.at.cut-smaller c).Joined-found-most-2 c.if-found-floor.false) c.if-weight-uncut.false c.wide-at-in-cut.ensures
 
 pub cut-preserved : goal.cut-preserved
 cut-preserved c =
-    turn-cut c.requires.loaded c.requires.candidates c.cut.invariant (let at = (goal.at.cut-preserved c).Joined-found-most-2 in turn-found c.requires.loaded c.requires.candidates c.cut.invariant c.loop-child.invariant (over at) (seen at) c.if-found-floor.false) c.if-weight-uncut.false c.wide-at-in-cut.ensures
+    turn-cut c.requires.loaded c.requires.candidates c.cut.invariant (heaviest-found (goal.at.cut-preserved c).Joined-found-most-2 c.if-found-floor.false) c.if-weight-uncut.false c.wide-at-in-cut.ensures
 
 pub returns-then-weight-uncut : goal.returns-then-weight-uncut
 returns-then-weight-uncut c =
