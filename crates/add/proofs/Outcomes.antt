@@ -5,6 +5,7 @@ use mathlib.Core.List.{List, zip_with}
 use Prim.Native.Nat.{ℕ, ◌+◌}
 use native.Mathlib.Omega.{arith}
 use lib.ListN.{length}
+use Rattle.std.specs.Prelude.{Option}
 use Rattle.game.specs.Edge.{ties, edges}
 use Rattle.game.specs.Game.{forest}
 use Rattle.game.specs.Net.{net, weights}
@@ -12,7 +13,6 @@ use Rattle.game.proofs.Edges.{edges-ties}
 use Rattle.game.proofs.Sound.{true-sound}
 use Rattle.game.proofs.Tables.{sum-entry}
 use Rattle.game.proofs.Forest.{forest-length}
-use Rattle.moved.specs.declared.Moved.{Moved}
 use Rattle.moved.specs.Moved.{moved_from, moved}
 use Rattle.moved.specs.Steps.{moved_at, Differ}
 use Rattle.moved.proofs.Differ.{differ-moved}
@@ -49,7 +49,7 @@ module _ {p w e j l : List ℕ} {xs : List ℕ} (a : Addable (with_work (net p w
       (x.clear ∙ same-room _ _ _ _ _ _ same same' refl)
 
   -- and what it answers is where the parents moved
-  pub add-moved : {e'' j'' p' e' j' l' : List ℕ} {r : ℕ} {m : Moved} → Extends p xs e'' j'' l p' e' j' l' → Differ p p' r → m ≡ moved_at r → m ≡ moved (net p w) (grown (net p w) (ties xs))
+  pub add-moved : {e'' j'' p' e' j' l' : List ℕ} {r : ℕ} {m : Option ℕ} → Extends p xs e'' j'' l p' e' j' l' → Differ p p' r → m ≡ moved_at r → m ≡ moved (net p w) (grown (net p w) (ties xs))
   unfolding moved grown edges
   add-moved x d is = is ∙ differ-moved (ap length x.grown ∙ forest-length _ _) (omega (arith, a.net.few)) d ∙ ap (moved_from 0 p) x.grown
 

@@ -7,9 +7,6 @@ use Prim.Native.Nat.{ℕ}
 use lib.ListN.{length}
 use Rattle.game.specs.Edge.{ties, edges}
 use Rattle.game.specs.Net.{weights}
-use Rattle.refusal.specs.Verdict.{refused}
-use Rattle.refusal.specs.Outcome.{ended}
-use Rattle.refusal.proofs.Ends.{ends-refused}
 use Rattle.bucket.specs.PlacingSteps.{upper_counts}
 use Rattle.growth.specs.Work.{NetWithWork, with_work, work_of}
 use Rattle.rising.proofs.Rising.{rises-faultless}
@@ -17,7 +14,6 @@ use Rattle.insert.specs.Extending.{Counted}
 use Rattle.add_refusal.specs.Refused.{add_refusal}
 use Rattle.add_refusal.specs.Steps.{add_list_refusal, LightList, ByList, ListRead}
 use Rattle.add_refusal.proofs.Steps.{light-decides}
-use Rattle.add.specs.Add.{add_outcome}
 use Rattle.add.specs.Steps.{RisingFirst}
 
 module _ {g : NetWithWork} {xs : List ℕ} {total : ℕ} {counted : Bool} {ends' jump' : List ℕ} {r : ℕ} (o : ByList g xs total) (l : ListRead xs total counted g.work.ends g.work.jump ends' jump' r) where
@@ -25,10 +21,9 @@ module _ {g : NetWithWork} {xs : List ℕ} {total : ℕ} {counted : Bool} {ends'
   pub list-decides : r ≡ add_refusal g xs
   list-decides = l.refusal ∙ ap (λ (n : ℕ). add_list_refusal n xs total) o.ends ∙ sym o.refusal
 
-  pub list-refused : (r ≡ 0 → ⊥) → ended (refused r) (with_work g.net (work_of ends' jump' g.work.lower)) ≡ add_outcome g xs
-  unfolding add_outcome
-  list-refused h =
-      ends-refused _ _ _ _ list-decides (λ z. h (list-decides ∙ z)) (ap₂ (λ (ends jump : List ℕ). with_work g.net (work_of ends jump g.work.lower)) (l.kept h).0 (l.kept h).1)
+  -- where that is something, the tables are as they were
+  pub list-kept : (r ≡ 0 → ⊥) → with_work g.net (work_of ends' jump' g.work.lower) ≡ g
+  list-kept h = ap₂ (λ (ends jump : List ℕ). with_work g.net (work_of ends jump g.work.lower)) (l.kept h).0 (l.kept h).1
 
   pub list_counted : r ≡ 0 → counted ≡ true → Counted g.net.parents xs ends' jump'
   list_counted z t =

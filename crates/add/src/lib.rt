@@ -5,24 +5,19 @@
 ghost use Rattle.std.specs.Prelude.{◌≡◌, true};
 ghost use Rattle.game.specs.Net.{net};
 ghost use Rattle.growth.specs.Work.{with_work, work_of};
-ghost use Rattle.moved.specs.Answer.{verdict};
+ghost use Rattle.refusal.specs.Numbers.{verdict};
 ghost use Rattle.refusal.specs.Outcome.{ended};
 ghost use Rattle.add.specs.Add.{add_outcome};
 ghost use Rattle.add.specs.Steps.{RisingFirst};
 
-use moved::GrowthAnswer;
 use net::Net;
+use refusal::Refusal;
 
 // Whether the list is to be counted, but is the first and can be grown as it stands.
 fn is_rising_first(parents: &[u32], edges: &[u32], counted: bool) -> bool
     ensures { result ≡ true → (counted ≡ true) × RisingFirst parents.now edges.now }
 {
-    if counted {
-        if rising::is_rising(parents.len(), edges) {
-            return table::is_all(parents, Net::ABSENT);
-        }
-    }
-    false
+    counted && rising::is_rising(parents.len(), edges) && table::is_all(parents, Net::ABSENT)
 }
 
 // Adds a list of ties to a net, as a whole or not at all: the parents become those of the elimination game on the old links and the new
@@ -35,24 +30,18 @@ pub fn add(
     ends: &mut [u32],
     jump: &mut [u32],
     lower: &mut [u32],
-) -> GrowthAnswer
+) -> Result<Option<u32>, Refusal>
     ensures { ended (verdict result) (with_work (net parents.new weights.new) (work_of ends.new jump.new lower.new))
         ≡ add_outcome (with_work (net parents.old weights.old) (work_of ends.old jump.old lower.old)) edges.now }
 {
-    let found = add_refusal::read_tables(parents, weights, edges, ends, jump, lower);
-    if found.code != 0 {
-        return GrowthAnswer::Refused(found.code);
-    }
+    let total = add_refusal::read_tables(parents, weights, edges, ends, jump, lower)?;
     let m = edge::count(edges);
-    let counted = insert::is_long(parents.len(), m) & add_refusal::is_light(found.total, m);
+    let counted = insert::is_long(parents.len(), m) & add_refusal::is_light(total, m);
     if is_rising_first(parents, edges, counted) {
         let lowest = rising::grow_list(parents, weights, edges, ends, jump, lower);
-        return moved::accepted(lowest);
+        return Ok(moved::moved_at(lowest));
     }
-    let code = add_refusal::read_list(edges, ends, jump, found.total, counted);
-    if code != 0 {
-        return GrowthAnswer::Refused(code);
-    }
+    add_refusal::read_list(edges, ends, jump, total, counted)?;
     let lowest = insert::extend(parents, weights, edges, ends, jump, lower, counted);
-    moved::accepted(lowest)
+    Ok(moved::moved_at(lowest))
 }

@@ -1,10 +1,10 @@
 -- How reading the tables and the list decides what adding is refused for.
 -- Assumes nothing.
-use mathlib.Core.Path.{◌≡◌, refl, sym, ap, ◌∙◌}
+use mathlib.Core.Path.{◌≡◌, refl, sym, ◌∙◌}
 use mathlib.Core.Logic.{by_cases}
 use mathlib.Core.Bool.{Bool, true, false, true≢false}
-use mathlib.Core.List.{List, [], ◌∷◌}
-use Prim.Native.Nat.{ℕ, suc, ◌+◌, ◌≤◌, ◌<◌}
+use mathlib.Core.List.{List}
+use Prim.Native.Nat.{ℕ, ◌+◌, ◌≤◌, ◌<◌}
 use native.Mathlib.Decide.{ℕ_discrete}
 use native.Mathlib.Omega.{arith}
 use lib.Dec.{ltb}
@@ -14,31 +14,12 @@ use Rattle.game.specs.Edge.{ties, edges}
 use Rattle.game.specs.Net.{charges}
 use Rattle.game.proofs.Edges.{edges-ties}
 use Rattle.refusal.specs.Limits.{max_total}
-use Rattle.refusal.specs.Refusal.{given, first, first_fault, list_refusal}
+use Rattle.refusal.specs.Refusal.{first_fault, list_refusal}
 use Rattle.refusal.proofs.Fault.{charges-most}
 use Rattle.refusal.proofs.First.{pass, first-pass, first-stop, first-end}
 use Rattle.refusal.proofs.ListRefusal.{list-passed, list-passes}
 use Rattle.bucket.specs.CountingSteps.{CountsList}
-use Rattle.growth.specs.Work.{NetWithWork, bad_work}
-use Rattle.growth.proofs.Rooms.{good-work}
-use Rattle.add_refusal.specs.Refused.{add_refusal}
-use Rattle.add_refusal.specs.Steps.{add_list_refusal, LightList, TablesRead, ListRead}
-
--- the tables refuse the call, by a number that is not 0
-pub tables-refused : (g : NetWithWork) (xs : List ℕ) (k : ℕ) {total : ℕ} → add_refusal g xs ≡ suc k → TablesRead g xs (suc k) total
-tables-refused g xs k e = record { refused = λ h. sym e; passed = λ z. absurd (omega arith) }
-
--- or they are right
-pub tables-right : (g : NetWithWork) (xs : List ℕ) {total : ℕ} → bad_work (length g.net.parents) (length g.net.parents + length (edges xs)) g.work ≡ false
-    → add_refusal g xs ≡ add_list_refusal (length g.net.parents) xs total → total ≤ max_total → TablesRead g xs 0 total
-tables-right g xs w e s =
-    let r = good-work _ _ g.work w in
-    record { refused = λ h. absurd (h refl); passed = λ z. record { refusal = e; ends = r.0; jump = r.1; small = s } }
-
--- too heavy, by the total that the code has summed
-pub heavy-told : (n : ℕ) (xs : List ℕ) {sum all : ℕ} → sum ≡ all
-    → first (list_refusal n xs ∷ given (ltb max_total (all + charges (ties xs))) 20 ∷ []) ≡ add_list_refusal n xs sum
-heavy-told n xs e = ap (add_list_refusal n xs) (sym e)
+use Rattle.add_refusal.specs.Steps.{add_list_refusal, LightList, ListRead}
 
 -- a list that passes its own tests is charged little
 pub list-charges : (n : ℕ) (xs : List ℕ) → list_refusal n xs ≡ 0 → charges (ties xs) ≤ max_total

@@ -1,10 +1,12 @@
 -- What reading the tables, and then the list, promises. No public contract cites this.
 -- Assumes nothing.
-use Rattle.std.specs.Prelude.{◌≡◌, Bool, true, List, [], ◌∷◌, ℕ, ◌+◌, ◌*◌, ◌≤◌, ltb, length}
+use Rattle.std.specs.Prelude.{◌≡◌, Bool, true, List, [], ◌∷◌, ℕ, ◌+◌, ◌*◌, ◌≤◌, ltb, length, Result, Ok, Err}
 use Rattle.game.specs.Edge.{ties, edges}
 use Rattle.game.specs.Net.{charges, weights}
 use Rattle.refusal.specs.Limits.{max_total, max_edges, max_rows}
 use Rattle.refusal.specs.Refusal.{given, first, list_refusal}
+use Rattle.refusal.specs.Numbers.{number_of}
+use Rattle.refusal.specs.declared.kinds.Refusal.{Refusal}
 use Rattle.bucket.specs.PlacingSteps.{upper_counts}
 use Rattle.growth.specs.Work.{NetWithWork}
 use Rattle.add_refusal.specs.Refused.{add_refusal}
@@ -26,9 +28,9 @@ pub record ByList (g : NetWithWork) (xs : List ℕ) (total : ℕ) : Type 0 where
   pub small : total ≤ max_total
 
 -- reading the tables refuses the call, or leaves it to the list
-pub record TablesRead (g : NetWithWork) (xs : List ℕ) (code total : ℕ) : Type 0 where
-  pub refused : (code ≡ 0 → ⊥) → code ≡ add_refusal g xs
-  pub passed : code ≡ 0 → ByList g xs total
+abbrev pub TablesRead : NetWithWork → List ℕ → Result ℕ Refusal → Type 0
+TablesRead g xs (Err r) = number_of r ≡ add_refusal g xs
+TablesRead g xs (Ok total) = ByList g xs total
 
 -- what reading the list is given: a table of jumps as long as that of ends, a total within the limit, and a light list, if it is to be
 -- counted

@@ -5,18 +5,15 @@
 ghost use Rattle.std.specs.Prelude.{◌≡◌, true, ◌≤◌};
 ghost use Rattle.game.specs.Net.{net};
 ghost use Rattle.refusal.specs.Limits.{max_total};
+ghost use Rattle.refusal.specs.Numbers.{code};
 ghost use Rattle.growth.specs.Work.{with_work, work_of};
 ghost use Rattle.add_refusal.specs.Steps.{LightList, TablesRead, ListReadable, ListRead};
 
 use net::Net;
+use refusal::Refusal;
 
-// What the tables tell before the list is read: the number for which adding is refused; or 0, and the net's total.
-#[derive(Drop)]
-pub struct Found {
-    pub code: u32,
-    pub total: u64,
-}
-
+// What the tables tell before the list is read: what adding is refused for, or the net's total.
+#[tactic(auto, using(crate::proofs::Chain::early_returns), unfolding(crate::specs::Refused::add_refusal, growth::specs::Work::bad_work))]
 pub fn read_tables(
     parents: &[u32],
     weights: &[u32],
@@ -24,32 +21,28 @@ pub fn read_tables(
     ends: &[u32],
     jump: &[u32],
     lower: &[u32],
-) -> Found
-    ensures { TablesRead (with_work (net parents.now weights.now) (work_of ends.now jump.now lower.now)) edges.now result.code result.total }
+) -> Result<u64, Refusal>
+    ensures { TablesRead (with_work (net parents.now weights.now) (work_of ends.now jump.now lower.now)) edges.now result }
 {
     let n = parents.len();
-    let total = 0;
     if refusal::bad_count(n) {
-        return Found { code: 1, total };
+        return Err(Refusal::BadCount);
     }
     if weights.len() != n {
-        return Found { code: 2, total };
+        return Err(Refusal::WrongLength);
     }
     if refusal::not_whole(edges) {
-        return Found { code: 2, total };
+        return Err(Refusal::WrongLength);
     }
     let m = edge::count(edges);
     if growth::bad_work(n, n + m, ends.len(), jump.len(), lower.len()) {
-        return Found { code: 2, total };
+        return Err(Refusal::WrongLength);
     }
     let net = Net::of(weights);
     if net.is_damaged(parents) {
-        return Found { code: 30, total };
+        return Err(Refusal::Damaged);
     }
-    Found {
-        code: 0,
-        total: net.total,
-    }
+    Ok(net.total)
 }
 
 // Whether a list of m ties cannot bring a total above the limit, whatever their rows. A list that is put on an empty net is light, if it is
@@ -64,7 +57,7 @@ pub fn is_light(total: u64, m: usize) -> bool
     total + refusal::MAX_ROWS as u64 * m as u64 <= Net::MAX_TOTAL
 }
 
-// The number for which the list is refused, or 0. A list that is to be counted is light, so that its faults alone decide; if it has none,
+// What the list is refused for. A list that is to be counted is light, so that its faults alone decide; if it has none,
 // the table of ends has its counts, and the table of jumps what each vertex is charged.
 pub fn read_list(
     edges: &[u32],
@@ -72,19 +65,16 @@ pub fn read_list(
     jump: &mut [u32],
     total: u64,
     counted: bool,
-) -> u32
+) -> Result<(), Refusal>
     requires { ListReadable edges.now total counted ends.old jump.old }
-    ensures { ListRead edges.now total counted ends.old jump.old ends.new jump.new result }
+    ensures { ListRead edges.now total counted ends.old jump.old ends.new jump.new (code result) }
 {
     if counted {
         return bucket::count_list(edges, ends, jump);
     }
-    let code = refusal::list_refusal(ends.len(), edges);
-    if code != 0 {
-        return code;
-    }
+    refusal::check_list(ends.len(), edges)?;
     if Net::MAX_TOTAL < total + edge::charges(edges) {
-        return 20;
+        return Err(Refusal::Full);
     }
-    0
+    Ok(())
 }

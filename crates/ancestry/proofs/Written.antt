@@ -3,6 +3,7 @@
 use mathlib.Core.Path.{◌≡◌, refl, sym, ap, ◌∙◌}
 use mathlib.Core.Logic.{◌≢◌}
 use mathlib.Core.List.{List, [], ◌∷◌, ◌++◌, append-nil}
+use Rattle.std.specs.Prelude.{None, Some}
 use Prim.Native.Nat.{ℕ, suc, ◌+◌, ◌-◌, ◌≤◌, ◌<◌}
 use native.Mathlib.Omega.{arith}
 use lib.ListN.{length, get_or, set, drop, length-append}
@@ -12,7 +13,6 @@ use Rattle.game.specs.Game.{absent}
 use Rattle.game.proofs.Sound.{get_d_default}
 use Rattle.game.proofs.Climbs.{top}
 use Rattle.ancestry.specs.Common.{at_front}
-use Rattle.ancestry.specs.declared.Lowest.TheVariants.{Vertex, Nothing}
 use Rattle.ancestry.specs.Steps.{Walkable, path, lowest_at}
 use Rattle.ancestry.proofs.Walk.{walkable-sound, walkable-few, next-higher, at, reached-le, reached-in, reached-up}
 use Rattle.ancestry.proofs.Paths.{path-on, path-out}
@@ -82,10 +82,10 @@ module _ {p : List ℕ} (w : Walkable p) {from : ℕ} {was : List ℕ} (long : l
       (t.table ∙ ap (λ (ys : List ℕ). at_front ys was) (sym whole), t.count ∙ ap length (sym whole))
 
 -- the lowest by its rank
-pub lowest-none : (r : ℕ) → r ≡ absent → lowest_at r ≡ Nothing
+pub lowest-none : (r : ℕ) → r ≡ absent → lowest_at r ≡ None
 unfolding lowest_at
 lowest-none r e = rw (eq-eqb r absent e)
 
-pub lowest-some : (r : ℕ) → r ≢ absent → lowest_at r ≡ Vertex r
+pub lowest-some : (r : ℕ) → r ≢ absent → lowest_at r ≡ Some r
 unfolding lowest_at
 lowest-some r d = rw (ne_eqb r absent d)

@@ -1,6 +1,6 @@
 -- What walking up a forest promises. No public contract cites this.
 -- Assumes nothing.
-use Rattle.std.specs.Prelude.{◌≡◌, ◌≢◌, true, cond, List, [], ◌∷◌, ℕ, ◌≤◌, ◌<◌, eqb, ltb, length}
+use Rattle.std.specs.Prelude.{◌≡◌, ◌≢◌, true, cond, List, [], ◌∷◌, ℕ, Option, None, Some, ◌≤◌, ◌<◌, eqb, ltb, length}
 use Rattle.game.specs.Game.{absent}
 use Rattle.game.specs.Tree.{ancestors, sound}
 use Rattle.game.proofs.Climbs.{Climbs}
@@ -8,8 +8,6 @@ use Rattle.refusal.specs.Limits.{max_vertices}
 use Rattle.refusal.specs.Refusal.{given, unless}
 use Rattle.refusal.specs.Verdict.{judged}
 use Rattle.refusal.specs.Outcome.{Outcome, ended}
-use Rattle.ancestry.specs.declared.Lowest.{Lowest}
-use Rattle.ancestry.specs.declared.Lowest.TheVariants.{Vertex, Nothing}
 use Rattle.ancestry.specs.declared.Separator.{Separator}
 use Rattle.ancestry.specs.Answer.{separator_of}
 use Rattle.ancestry.specs.Common.{common_ancestors, related, at_front}
@@ -30,8 +28,8 @@ pub record FirstCommon (p : List ℕ) (a b r : ℕ) : Type 0 where
   pub least : (z : ℕ) → Climbs p z a → Climbs p z b → Climbs p z r
 
 -- the lowest by its rank, absent for none
-unfoldable pub lowest_at : ℕ → Lowest
-lowest_at r = cond (eqb r absent) Nothing (Vertex r)
+unfoldable pub lowest_at : ℕ → Option ℕ
+lowest_at r = cond (eqb r absent) None (Some r)
 
 -- what listing ends with, 31 being all that it refuses
 unfoldable pub list_outcome : List ℕ → (a b : ℕ) → (was : List ℕ) → Outcome Separator (List ℕ)

@@ -4,32 +4,20 @@
 
 ghost use Rattle.std.specs.Prelude.{◌≡◌, ◌≢◌, ◌<◌, length};
 ghost use Rattle.game.specs.Game.{absent};
+ghost use Rattle.refusal.specs.Numbers.{verdict};
 ghost use Rattle.refusal.specs.Outcome.{ended};
 ghost use Rattle.ancestry.specs.Common.{at_front};
-ghost use Rattle.ancestry.specs.Answer.{verdict, separator, lowest_rank};
+ghost use Rattle.ancestry.specs.Answer.{separator, lowest_rank};
 ghost use Rattle.ancestry.specs.Steps.{Walkable, path, FirstCommon, lowest_at, list_outcome};
 
 use net::Net;
+use refusal::Refusal;
 
-// The lowest of the vertices above both, or nothing: there is none.
-#[derive(Drop)]
-pub enum Lowest {
-    Vertex(u32),
-    Nothing,
-}
-
-// What is answered of the vertices above both: how many they are, and the lowest.
-#[derive(Drop)]
+// What is answered of the vertices above both: how many they are, and the lowest, if there is one.
+#[derive(Clone, Copy, Debug, PartialEq, Eq)]
 pub struct Separator {
     pub count: u32,
-    pub lowest: Lowest,
-}
-
-// That, or the number for which a call was refused.
-#[derive(Drop)]
-pub enum SeparatorAnswer {
-    Accepted(Separator),
-    Refused(u32),
+    pub lowest: Option<u32>,
 }
 
 // The lowest vertex that both climb to, themselves included; absent, if there is none. The lower of the two goes up, so neither passes
@@ -42,8 +30,8 @@ fn lowest_common(parents: &[u32], one: u32, other: u32) -> u32
     let mut a = one;
     let mut b = other;
     while a != b {
-        let low = table::smaller(a, b);
-        b = table::larger(a, b);
+        let low = a.min(b);
+        b = a.max(b);
         a = parents[low as usize];
     }
     a
@@ -65,41 +53,39 @@ fn write_path(parents: &[u32], from: u32, table: &mut [u32]) -> u32
 }
 
 // The answer by how many there are, and the lowest, absent for none.
+#[tactic(auto, unfolding(crate::specs::Steps::lowest_at))]
 fn found(count: u32, lowest: u32) -> Separator
     ensures { result ≡ separator count (lowest_at lowest) }
 {
-    if lowest == Net::ABSENT {
-        return Separator {
-            count,
-            lowest: Lowest::Nothing,
-        };
-    }
     Separator {
         count,
-        lowest: Lowest::Vertex(lowest),
+        lowest: (lowest != Net::ABSENT).then_some(lowest),
     }
 }
 
 // Lists the vertices above both at the front of a table, lowest first. Refused with 31, where the two are equal or one is above the other,
 // it leaves the table as it was.
-pub fn list_common(parents: &[u32], one: u32, other: u32, table: &mut [u32]) -> SeparatorAnswer
+pub fn list_common(
+    parents: &[u32],
+    one: u32,
+    other: u32,
+    table: &mut [u32],
+) -> Result<Separator, Refusal>
     requires { Walkable parents.now × (one < length parents.now) × (other < length parents.now) × (length table.old ≡ length parents.now) }
     ensures { ended (verdict result) table.new ≡ list_outcome parents.now one other table.old }
 {
     let meet = lowest_common(parents, one, other);
     if (meet == one) | (meet == other) {
-        return SeparatorAnswer::Refused(31);
+        return Err(Refusal::Related);
     }
     let count = write_path(parents, meet, table);
-    SeparatorAnswer::Accepted(found(count, meet))
+    Ok(found(count, meet))
 }
 
 // The lowest as one number: absent for none.
-pub fn lowest_rank(lowest: Lowest) -> u32
+#[tactic(auto, unfolding(crate::specs::Answer::lowest_rank))]
+pub fn lowest_rank(lowest: Option<u32>) -> u32
     ensures { result ≡ lowest_rank lowest }
 {
-    match lowest {
-        Lowest::Vertex(rank) => rank,
-        Lowest::Nothing => Net::ABSENT,
-    }
+    lowest.unwrap_or(Net::ABSENT)
 }

@@ -1,6 +1,6 @@
 -- What is known of a vertex when its bucket is counted, and an edge that comes to one that waits: each way through, and what it leaves.
 -- Assumes nothing.
-use mathlib.Core.Path.{◌≡◌, refl, sym, ap, ap₂, ◌∙◌}
+use mathlib.Core.Path.{◌≡◌, refl, sym, ap, ◌∙◌}
 use mathlib.Core.Bool.{Bool, true, false, not}
 use mathlib.Core.List.{List}
 use Prim.Native.Nat.{ℕ, ◌+◌, ◌-◌, ◌^◌, ◌≤◌, ◌<◌}
@@ -13,20 +13,6 @@ use Rattle.game.specs.Table.{one_if}
 use Rattle.game.proofs.Bools.{test-cases}
 use Rattle.block_count.specs.WaitingSteps.{unmet, next_pending, next_at, waiting, Passes}
 use Rattle.block_count.proofs.Coming.{next-none}
-
--- one less, if a flag is set
-module _ (n : ℕ) {flag : Bool} where
-  pub less_one : flag ≡ true → n - 1 ≡ n - one_if flag
-  unfolding one_if
-  less_one e = rw e refl
-
-  pub less-nought : flag ≡ true → n ≤ 0 → n ≡ n - one_if flag
-  unfolding one_if
-  less-nought e h = rw e (omega arith)
-
-  pub less-not : flag ≡ false → n ≡ n - one_if flag
-  unfolding one_if
-  less-not e = rw e (omega arith)
 
 -- what is waited for next: the own block was met before, is met now, or is not met yet
 module _ (down own : Bool) (p : ℕ) where
@@ -56,37 +42,26 @@ unfolding waiting
 waiting-le p = test-cases (eqb p 0) (λ e. rw e (omega arith)) (λ e. rw e (omega arith))
 
 -- a vertex that waits can take an edge
-pub pass_fits : (x : ℕ) (pending taken : List ℕ) {at : ℕ} → at ≡ x → (get_or pending at 0 ≡ 0 → ⊥) → get_or taken x 0 + waiting (get_or pending x 0) < 2 ^ 32
-    → get_or taken at 0 + 1 < 2 ^ 32
-pass_fits x pending taken e n h = omega (arith, waits-so n, ap (λ (i : ℕ). waiting (get_or pending i 0)) e, ap (λ (i : ℕ). get_or taken i 0) e)
+pub pass_fits : (x : ℕ) (pending taken : List ℕ) → (get_or pending x 0 ≡ 0 → ⊥) → get_or taken x 0 + waiting (get_or pending x 0) < 2 ^ 32 → get_or taken x 0 + 1 < 2 ^ 32
+pass_fits x pending taken n h = omega (arith, waits-so n)
 
--- an edge comes to an end that does not wait, or does; the code has x and low as indices
+-- an edge comes to an end that does not wait, or does
 module _ (x low : ℕ) (block pending taken : List ℕ) where
-  pub pass-not : {at : ℕ} → at ≡ x → get_or pending at 0 ≡ 0 → Passes x low block pending taken pending taken 0
-  pass-not e z = record {
+  pub pass-not : get_or pending x 0 ≡ 0 → Passes x low block pending taken pending taken 0
+  pass-not none = record {
     passed = sym (ap (set pending x) (next ∙ sym none) ∙ set-get_or pending x 0);
     took = sym (ap (set taken x) (omega (arith, waits-not none)) ∙ set-get_or taken x 0);
     settled = omega (arith, waits-not none, waits-not next);
   }
     where
-      none : get_or pending x 0 ≡ 0
-      none = ap (λ (i : ℕ). get_or pending i 0) (sym e) ∙ z
-
       next : next_at block x low (get_or pending x 0) ≡ 0
       next = ap (next_at block x low) none ∙ next-none block x low
 
-  module _ {at end after : ℕ} (e : at ≡ x) (l : end ≡ low) (n : get_or pending at 0 ≡ 0 → ⊥)
-      (f : after ≡ next_pending (not (eqb x low)) (eqb (get_or block at 0) (get_or block end 0)) (get_or pending at 0)) where
-    pub pass_on : {u : ℕ} → u ≡ waiting after → Passes x low block pending taken (set pending at after) (set taken at (get_or taken at 0 + 1)) (1 - u)
+  module _ {after : ℕ} (n : get_or pending x 0 ≡ 0 → ⊥) (next : after ≡ next_pending (not (eqb x low)) (eqb (get_or block x 0) (get_or block low 0)) (get_or pending x 0)) where
+    pub pass_on : {u : ℕ} → u ≡ waiting after → Passes x low block pending taken (set pending x after) (set taken x (get_or taken x 0 + 1)) (1 - u)
     unfolding next_at
     pass_on {u} q = record {
-      passed = ap₂ (set pending) e next;
-      took = ap₂ (set taken) e (ap₂ ◌+◌ (ap (λ (i : ℕ). get_or taken i 0) e) some);
-      settled = omega (arith, q, ap waiting next, waiting-le after, some);
+      passed = ap (set pending x) next;
+      took = ap (λ (v : ℕ). set taken x (get_or taken x 0 + v)) (waits-so n);
+      settled = omega (arith, q, ap waiting next, waiting-le after, waits-so n);
     }
-      where
-        next : after ≡ next_pending (not (eqb x low)) (eqb (get_or block x 0) (get_or block low 0)) (get_or pending x 0)
-        next = f ∙ (λ i. next_pending (not (eqb x low)) (eqb (get_or block (e i) 0) (get_or block (l i) 0)) (get_or pending (e i) 0))
-
-        some : 1 ≡ waiting (get_or pending x 0)
-        some = waits-so n ∙ ap (λ (i : ℕ). waiting (get_or pending i 0)) e

@@ -48,19 +48,14 @@ stamped-meet {stamps} {stamp} {bs} {r} s b h {stamps'} {d} e q = record {
     here : (j : ℕ) → j ≡ b → eqb (get_or (set stamps b stamp) j 0) stamp ≡ member j (bs ++ b ∷ [])
     here j n = rw (n, get_or-set_same stamps b stamp 0 h, member-here b bs) (eq-eqb stamp stamp refl)
 
--- a block that has the stamp, or not; the code has its number as an index
-module _ (stamps : List ℕ) (stamp : ℕ) {at b : ℕ} (same : at ≡ b) where
-  pub met-again : get_or stamps at 0 ≡ stamp → (stamps ≡ set stamps b stamp) × (◌≡◌ {A = ℕ} 0 (cond (eqb (get_or stamps b 0) stamp) 0 1))
-  met-again e =
-      let f : get_or stamps b 0 ≡ stamp = ap (λ (i : ℕ). get_or stamps i 0) (sym same) ∙ e in
-      (sym (ap (set stamps b) (sym f) ∙ set-get_or stamps b 0), rw (eq-eqb (get_or stamps b 0) stamp f) refl)
+-- a block that has the stamp, or not
+module _ (stamps : List ℕ) (stamp b : ℕ) where
+  pub met-again : get_or stamps b 0 ≡ stamp → (stamps ≡ set stamps b stamp) × (◌≡◌ {A = ℕ} 0 (cond (eqb (get_or stamps b 0) stamp) 0 1))
+  met-again e = (sym (ap (set stamps b) (sym e) ∙ set-get_or stamps b 0), rw (eq-eqb (get_or stamps b 0) stamp e) refl)
 
-  pub met-first : (get_or stamps at 0 ≡ stamp → ⊥)
-      → (set stamps at stamp ≡ set stamps b stamp) × (◌≡◌ {A = ℕ} 1 (cond (eqb (get_or stamps b 0) stamp) 0 1))
-  met-first d = (
-    ap (λ (i : ℕ). set stamps i stamp) same,
-    rw (ne_eqb (get_or stamps b 0) stamp (λ f. d (ap (λ (i : ℕ). get_or stamps i 0) same ∙ f))) refl,
-  )
+  pub met-first : (get_or stamps b 0 ≡ stamp → ⊥)
+      → (set stamps b stamp ≡ set stamps b stamp) × (◌≡◌ {A = ℕ} 1 (cond (eqb (get_or stamps b 0) stamp) 0 1))
+  met-first d = (refl, rw (ne_eqb (get_or stamps b 0) stamp d) refl)
 
 -- a vertex's own block
 module _ {stamps : List ℕ} {stamp : ℕ} (f : Fresh stamps stamp) (b : ℕ) where
@@ -87,15 +82,12 @@ pub record AtTurn (k : ℕ) (block : List ℕ) (y up : ℕ) (lower stamps : List
 
 module _ {k : ℕ} {block : List ℕ} {y up : ℕ} {lower : List ℕ} where
   -- the own block is met
-  pub at-start : {at r : ℕ} {stamps : List ℕ} → at ≡ y → length stamps ≡ k → Stamped stamps (y + 1) (own_block up (get_or block at 0)) r
-      → AtTurn k block y up lower stamps r 0
+  pub at-start : {r : ℕ} {stamps : List ℕ} → length stamps ≡ k → Stamped stamps (y + 1) (own_block up (get_or block y 0)) r → AtTurn k block y up lower stamps r 0
   unfolding met_blocks
-  at-start {r = r} {stamps = stamps} e l s = record {
+  at-start {r = r} {stamps = stamps} l s = record {
     within = omega arith;
     all = l;
-    stamped =
-        subst (λ (bs : List ℕ). Stamped stamps (y + 1) bs r)
-        (ap (λ (v : ℕ). own_block up (get_or block v 0)) e ∙ sym (append-nil (own_block up (get_or block y 0)))) s;
+    stamped = subst (λ (bs : List ℕ). Stamped stamps (y + 1) bs r) (sym (append-nil (own_block up (get_or block y 0)))) s;
     needed = λ j h. absurd (omega arith);
   }
 
@@ -104,19 +96,19 @@ module _ {k : ℕ} {block : List ℕ} {y up : ℕ} {lower : List ℕ} where
     at-few = omega (arith, stamped-few t.stamped, t.all)
 
     -- one lower neighbour more
-    pub at-step : i < length lower → (count ≡ k → ⊥) → {at d : ℕ} {stamps' : List ℕ} → at ≡ get_or lower i 0 → get_or block at 0 < k
-        → stamps' ≡ set stamps (get_or block at 0) (y + 1) → d ≡ cond (eqb (get_or stamps (get_or block at 0) 0) (y + 1)) 0 1
+    pub at-step : i < length lower → (count ≡ k → ⊥) → {d : ℕ} {stamps' : List ℕ} → get_or block (get_or lower i 0) 0 < k
+        → stamps' ≡ set stamps (get_or block (get_or lower i 0) 0) (y + 1) → d ≡ cond (eqb (get_or stamps (get_or block (get_or lower i 0) 0) 0) (y + 1)) 0 1
         → AtTurn k block y up lower stamps' (count + d) (i + 1)
     unfolding met_blocks
-    at-step h n {at} {d} {stamps'} e b q f = record {
+    at-step h n {d} {stamps'} b q f = record {
       within = omega arith;
-      all = ap length q ∙ length-set stamps (get_or block at 0) (y + 1) ∙ t.all;
+      all = ap length q ∙ length-set stamps (block_at (get_or lower i 0)) (y + 1) ∙ t.all;
       stamped =
           subst (λ (bs : List ℕ). Stamped stamps' (y + 1) bs (count + d))
-          (append_assoc (own_block up (get_or block y 0)) (map block_at (take i lower)) (get_or block at 0 ∷ [])
+          (append_assoc (own_block up (get_or block y 0)) (map block_at (take i lower)) (block_at (get_or lower i 0) ∷ [])
           ∙ ap (λ (bs : List ℕ). own_block up (get_or block y 0) ++ bs)
-          (ap (λ (u : ℕ). map block_at (take i lower) ++ (get_or block u 0 ∷ [])) e ∙ sym (map-append block_at (take i lower) (get_or lower i 0 ∷ [])) ∙ ap (map block_at) longer))
-          (stamped-meet t.stamped (get_or block at 0) (omega (arith, t.all)) q f);
+          (sym (map-append block_at (take i lower) (get_or lower i 0 ∷ [])) ∙ ap (map block_at) longer))
+          (stamped-meet t.stamped (block_at (get_or lower i 0)) (omega (arith, t.all)) q f);
       needed = λ j l. by_cases (dec_lt j i) (t.needed j) (λ (o : j < i → ⊥). subst (λ (v : ℕ). different k (met_blocks block y up (take v lower)) < k) (last l o) fewer);
     }
       where
@@ -150,5 +142,5 @@ module _ {k : ℕ} {block : List ℕ} {y up : ℕ} {lower : List ℕ} where
     pub at_all : count ≡ k → Counts k block y up lower stamps (record { count = count; read = i })
     at_all e = found (inl e)
 
-    pub at-end : length lower ≤ i → Counts k block y up lower stamps (record { count = count; read = i })
-    at-end h = found (inr h)
+    pub at-end : length lower ≤ i → Counts k block y up lower stamps (record { count = count; read = length lower })
+    at-end h = let e : i ≡ length lower = omega (arith, t.within) in subst (λ (r : ℕ). Counts k block y up lower stamps (record { count = count; read = r })) e (found (inr h))

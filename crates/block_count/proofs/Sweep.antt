@@ -4,7 +4,7 @@ use mathlib.Core.Path.{◌≡◌, refl, sym, ap, ap₂, subst, ◌∙◌}
 use mathlib.Core.Logic.{◌≢◌, by_cases}
 use mathlib.Core.Bool.{true, false}
 use mathlib.Core.List.{List, [], ◌∷◌, map}
-use Prim.Native.Nat.{ℕ, zero, suc, ◌+◌, ◌-◌, ◌^◌, ◌≤◌, ◌<◌}
+use Prim.Native.Nat.{ℕ, zero, suc, ◌+◌, ◌-◌, ◌^◌, ◌≤◌, ◌<◌, min}
 use native.Mathlib.Numerals.{add-one}
 use native.Mathlib.Decide.{ℕ_discrete}
 use native.Mathlib.Omega.{arith}
@@ -16,9 +16,7 @@ use Rattle.game.specs.Table.{sum}
 use Rattle.game.specs.Edge.{Edge, ◌─◌, lower, touches}
 use Rattle.game.specs.Graph.{Proper}
 use Rattle.game.proofs.Bools.{or_left, or_right}
-use Rattle.edge.proofs.Reading.{AtEdge, edge-start, edge-next, edge_here, edge-end}
 use Rattle.game.proofs.Proper.{proper-head, proper-tail}
-use Rattle.bucket.specs.Ends.{end_of}
 use Rattle.block_count.specs.WaitingSteps.{next_at, waiting, waiting_in, waits, Passable, Passes, Sweepable, Swept}
 use Rattle.block_count.proofs.Passing.{waiting-le}
 use Rattle.block_count.proofs.Coming.{waits-none, waits-away, waits-here}
@@ -74,11 +72,6 @@ module _ {pending : List ℕ} where
       none : waiting_in (drop x pending) ≡ 0
       none = rw (whole, drop-length pending) refl
 
--- the lower end, as the code has it
-pub low_end : {low : ℕ} (a b : ℕ) → low ≡ end_of false (a ─ b) → low ≡ lower (a ─ b)
-unfolding end_of
-low_end a b e = e
-
 -- One edge of the list, at both of its ends.
 module _ {x low : ℕ} {block pending taken pending' taken' : List ℕ} {r : ℕ} (s : Passes x low block pending taken pending' taken' r) where
   pub pass-long : (length pending' ≡ length pending) × (length taken' ≡ length taken)
@@ -99,21 +92,20 @@ module _ {x low : ℕ} {block pending taken pending' taken' : List ℕ} {r : ℕ
     ap (λ (t : List ℕ). get_or t z 0) s.took ∙ get_or-set_other taken x z _ 0 d,
   )
 
--- where the pass stands: the list is read up to edge i of m, and what is left of it brings each vertex to where the whole list would have
-pub record SweepTurn (es : List Edge) (block pending₀ taken₀ pending taken : List ℕ) (m w i : ℕ) : Type 0 where
-  pub place : AtEdge es m i
+-- where the pass stands: what is left of the list brings each vertex to where the whole list would have
+pub record SweepTurn (es left : List Edge) (block pending₀ taken₀ pending taken : List ℕ) (w : ℕ) : Type 0 where
   pub pending_long : length pending ≡ length block
   pub taken_long : length taken ≡ length block
-  pub proper : Proper (length block) (drop i es)
+  pub proper : Proper (length block) left
   pub counted : w ≡ waiting_in pending
   pub same : (z : ℕ) → z < length block
-      → get_or taken z 0 + waits block z (get_or pending z 0) (drop i es) ≡ get_or taken₀ z 0 + waits block z (get_or pending₀ z 0) es
+      → get_or taken z 0 + waits block z (get_or pending z 0) left ≡ get_or taken₀ z 0 + waits block z (get_or pending₀ z 0) es
 
 module _ {es : List Edge} {block pending₀ taken₀ : List ℕ} (g : Sweepable es block pending₀ taken₀) where
-  pub sweep-start : {m w : ℕ} → m ≡ length es → w ≡ waiting_in pending₀ → SweepTurn es block pending₀ taken₀ pending₀ taken₀ m w 0
-  sweep-start k e = record { place = edge-start k; pending_long = g.pending_long; taken_long = g.taken_long; proper = g.proper; counted = e; same = λ z h. refl }
+  pub sweep-start : {left : List Edge} {w : ℕ} → left ≡ es → w ≡ waiting_in pending₀ → SweepTurn es left block pending₀ taken₀ pending₀ taken₀ w
+  sweep-start k e = record { pending_long = g.pending_long; taken_long = g.taken_long; proper = rw k g.proper; counted = e; same = λ z h. rw k refl }
 
-  module _ {pending taken : List ℕ} {m w i : ℕ} (t : SweepTurn es block pending₀ taken₀ pending taken m w i) where
+  module _ {left : List Edge} {pending taken : List ℕ} {w : ℕ} (t : SweepTurn es left block pending₀ taken₀ pending taken w) where
     -- no vertex waits
     pub sweep-none : w ≡ 0 → Swept es block pending₀ taken₀ taken
     sweep-none e = record {
@@ -121,24 +113,17 @@ module _ {es : List Edge} {block pending₀ taken₀ : List ℕ} (g : Sweepable 
           omega (
             arith,
             t.same z h,
-            ap (λ (p : ℕ). waits block z p (drop i es)) (waiting-entry pending z (sym t.counted ∙ e)),
-            waits-none block z (drop i es),
+            ap (λ (p : ℕ). waits block z p left) (waiting-entry pending z (sym t.counted ∙ e)),
+            waits-none block z left,
           );
     }
 
     -- the list is at its end
-    pub sweep-end : m ≤ i → Swept es block pending₀ taken₀ taken
+    pub sweep-end : left ≡ [] → Swept es block pending₀ taken₀ taken
     unfolding waits
-    sweep-end h = record { each = λ z l. omega (arith, t.same z l, ap (λ (es : List Edge). waits block z (get_or pending z 0) es) (edge-end t.place h)) }
+    sweep-end h = record { each = λ z l. omega (arith, t.same z l, ap (λ (es : List Edge). waits block z (get_or pending z 0) es) h) }
 
-    module _ (h : i < m) {a b : ℕ} (r : (a ─ b) ≡ get_or es i (0 ─ 0)) where
-      rest : List Edge
-      rest = drop (i + 1) es
-
-      split : drop i es ≡ (a ─ b) ∷ rest
-      unfolding rest
-      split = edge_here t.place h r
-
+    module _ {a b : ℕ} {rest : List Edge} (split : left ≡ (a ─ b) ∷ rest) where
       proper-edge : Proper (length block) ((a ─ b) ∷ rest)
       proper-edge = subst (Proper (length block)) split t.proper
 
@@ -162,11 +147,10 @@ module _ {es : List Edge} {block pending₀ taken₀ : List ℕ} (g : Sweepable 
       unfolding touches
       at_none {z} d e = rw (ne_eqb a z (λ q. d (sym q)), ne_eqb b z (λ q. e (sym q)))
 
-      low-inside : lower (a ─ b) < length block
-      unfolding lower
+      low-inside : min a b < length block
       low-inside = omega (arith, inside.0, inside.1)
 
-      pub sweep-first : {low : ℕ} → low ≡ lower (a ─ b) → Passable a low block pending taken
+      pub sweep-first : {low : ℕ} → low ≡ min a b → Passable a low block pending taken
       sweep-first e = record {
         inside = inside.0;
         low_inside = rw e low-inside;
@@ -175,7 +159,7 @@ module _ {es : List Edge} {block pending₀ taken₀ : List ℕ} (g : Sweepable 
         small = fits-at inside.0 at_first;
       }
 
-      module _ {low : ℕ} (e : low ≡ lower (a ─ b)) {p₁ t₁ : List ℕ} {r₁ : ℕ} (s₁ : Passes a low block pending taken p₁ t₁ r₁) where
+      module _ {low : ℕ} (e : low ≡ min a b) {p₁ t₁ : List ℕ} {r₁ : ℕ} (s₁ : Passes a low block pending taken p₁ t₁ r₁) where
         pub sweep-less : r₁ ≤ w
         sweep-less = omega (arith, t.counted, pass-count s₁ (omega (arith, inside.0, t.pending_long)))
 
@@ -195,6 +179,7 @@ module _ {es : List Edge} {block pending₀ taken₀ : List ℕ} (g : Sweepable 
 
           -- a vertex, after both
           both : (z : ℕ) → z < length block → get_or t₂ z 0 + waits block z (get_or p₂ z 0) rest ≡ get_or taken z 0 + waits block z (get_or pending z 0) ((a ─ b) ∷ rest)
+          unfolding lower
           both z l =
               by_cases (ℕ_discrete z a)
               (λ (q : z ≡ a).
@@ -222,10 +207,8 @@ module _ {es : List Edge} {block pending₀ taken₀ : List ℕ} (g : Sweepable 
                     waits-here block z (get_or pending z 0) (a ─ b) rest h,
                   )
 
-          pub sweep-step : SweepTurn es block pending₀ taken₀ p₂ t₂ m (w - r₁ - r₂) (i + 1)
-          unfolding rest
+          pub sweep-step : SweepTurn es rest block pending₀ taken₀ p₂ t₂ (w - r₁ - r₂)
           sweep-step = record {
-            place = edge-next t.place h;
             pending_long = (pass-long s₂).0 ∙ (pass-long s₁).0 ∙ t.pending_long;
             taken_long = (pass-long s₂).1 ∙ (pass-long s₁).1 ∙ t.taken_long;
             proper = proper-tail proper-edge;

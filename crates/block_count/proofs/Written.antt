@@ -4,10 +4,10 @@ use mathlib.Core.Path.{◌≡◌, refl, sym, ap, subst, ◌∙◌}
 use mathlib.Core.Logic.{by_cases}
 use mathlib.Core.Bool.{true, false}
 use mathlib.Core.List.{List, [], ◌∷◌}
-use Prim.Native.Nat.{ℕ, zero, suc, ◌+◌, ◌-◌, ◌≤◌, ◌<◌}
+use Prim.Native.Nat.{ℕ, zero, suc, ◌+◌, ◌≤◌, ◌<◌}
 use native.Mathlib.Decide.{dec_lt}
 use native.Mathlib.Omega.{arith}
-use lib.ListN.{length, length-map, get_or, take, drop, replicate, length-replicate, get_or-replicate, get_or-eq_default}
+use lib.ListN.{length, length-map, get_or, take, replicate, length-replicate, get_or-replicate, get_or-eq_default}
 use Rattle.game.specs.Edge.{Edge}
 use Rattle.game.proofs.Tables.{tabulate-length, tabulate-entry, tabulate-unique}
 use Rattle.bucket.specs.Ends.{end_of}
@@ -56,8 +56,8 @@ module _ {es : List Edge} {upward block : List ℕ} {k : ℕ} {ends lower counts
   few-lower y = omega (arith, values_length (end_of true) (end_of false) es y, key-le (end_of true) es y)
 
   -- the count can begin
-  pub count-ready : {all : ℕ} {stamps : List ℕ} → all ≡ k → stamps ≡ take (all - 0) (drop 0 (replicate max_blocks 0)) → Bucketed ends lower upward block k counts pending stamps
-  count-ready {all} {stamps} e q = record {
+  pub count-ready : {stamps : List ℕ} → stamps ≡ take k (replicate max_blocks 0) → Bucketed ends lower upward block k counts pending stamps
+  count-ready {stamps} q = record {
     buckets = filed-consecutive c.filed c.few;
     neighbours = λ y i h l. omega (arith, filed-inside c.filed (y + 1) i (omega (arith, long)) (omega (arith, c.filed.sorted.end_at y (omega (arith, long)))), long);
     short = λ y h. omega (arith, c.filed.sorted.end_at y (omega (arith, long)), below-le (end_of true) (y + 1) es, c.few_edges);
@@ -73,10 +73,7 @@ module _ {es : List Edge} {upward block : List ℕ} {k : ℕ} {ends lower counts
   }
     where
       s : stamps ≡ replicate k 0
-      s = q ∙ ap (λ (m : ℕ). take m (replicate max_blocks 0)) (less e) ∙ zeros-front k max_blocks c.small
-        where
-          less : all ≡ k → all - 0 ≡ k
-          less e = omega arith
+      s = q ∙ zeros-front k max_blocks c.small
 
   -- when the buckets are counted
   module _ {counts' taken' pending' : List ℕ} (b : Counted k ends lower upward block counts' taken' pending') where

@@ -5,7 +5,6 @@ ghost use Rattle.block_count.specs.CountingSteps.{CountableAt, Counts, known_at,
 
 use crate::stamping::{meet, meet_own};
 use crate::waiting::UNMET;
-use table::{narrow, wide};
 
 // What the count at a vertex found: how many different blocks, and how many of its lower neighbours it read.
 #[derive(Drop)]
@@ -28,16 +27,17 @@ fn count_at(y: u32, up: u32, lower: &[u32], block: &[u32], all: u32, stamps: &mu
     ensures { Counts all block.now y up lower.now stamps.new result }
 {
     let stamp = y + 1;
-    let mut count = meet_own(up, block[wide(y)], stamp, stamps);
-    let mut i = 0;
-    while i < lower.len() {
+    let mut count = meet_own(up, block[y as usize], stamp, stamps);
+    for (i, &low) in lower.iter().enumerate() {
         if count == all {
             return Met { count, read: i };
         }
-        count += meet(block[wide(lower[i])], stamp, stamps);
-        i += 1;
+        count += meet(block[low as usize], stamp, stamps);
     }
-    Met { count, read: i }
+    Met {
+        count,
+        read: lower.len(),
+    }
 }
 
 // What is known of a vertex when its bucket is counted, by the number of its edges that lead up and of those that lead down. If it did not
@@ -48,7 +48,7 @@ fn known_at(up: u32, size: usize, count: u32, read: usize, all: u32) -> Known
     ensures { result ≡ known_at all up size count read }
 {
     if count != all {
-        let taken = up + narrow(size);
+        let taken = up + size as u32;
         return Known { taken, pending: 0 };
     }
     if all == 1 {
@@ -57,7 +57,7 @@ fn known_at(up: u32, size: usize, count: u32, read: usize, all: u32) -> Known
             pending: 0,
         };
     }
-    let taken = narrow(read);
+    let taken = read as u32;
     if up == 0 {
         return Known { taken, pending: 0 };
     }
@@ -81,9 +81,8 @@ pub fn count_buckets(
     ensures { Counted all ends.now lower.now edges_taken.old block.now block_count.new edges_taken.new pending.new }
 {
     let mut at = 0;
-    let mut y = 0;
-    while y < ends.len() {
-        let end = wide(ends[y]);
+    for (y, &end) in ends.iter().enumerate() {
+        let end = end as usize;
         let up = edges_taken[y];
         let met = count_at(y as u32, up, &lower[at..end], block, all, stamps);
         block_count[y] = met.count;
@@ -91,6 +90,5 @@ pub fn count_buckets(
         edges_taken[y] = known.taken;
         pending[y] = known.pending;
         at = end;
-        y += 1;
     }
 }

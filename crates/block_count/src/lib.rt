@@ -40,7 +40,7 @@ pub fn write_block_counts(
         block_count,
         edges_taken,
         pending,
-        &mut stamps[0..table::wide(all)],
+        &mut stamps[..all as usize],
     );
     waiting::settle(edges, block, pending, edges_taken);
 }

@@ -2,14 +2,12 @@
 ghost use Rattle.std.specs.Prelude.{◌≡◌, cond, ◌<◌, eqb, length, get_or, set};
 ghost use Rattle.block_count.specs.CountingSteps.{own_block, Fresh, Stamped};
 
-use table::wide;
-
 // Stamps a block. Answers 1 if it did not have the stamp, else 0.
 pub fn meet(block: u32, stamp: u32, stamps: &mut [u32]) -> u32
     requires { block < length stamps.old }
     ensures { (stamps.new ≡ set stamps.old block stamp) × (result ≡ cond (eqb (get_or stamps.old block 0) stamp) 0 1) }
 {
-    let at = wide(block);
+    let at = block as usize;
     if stamps[at] == stamp {
         return 0;
     }

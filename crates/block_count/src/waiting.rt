@@ -5,9 +5,6 @@ ghost use Rattle.game.specs.Edge.{edges as edges_of};
 ghost use Rattle.refusal.specs.Limits.{max_vertices};
 ghost use Rattle.block_count.specs.WaitingSteps.{next_pending, waiting, waiting_in, Passable, Passes, Sweepable, Swept};
 
-use bucket::end_of;
-use table::wide;
-
 // What a vertex's count waits for is held in one number: how many edges to lower neighbours have to come, and this one on top while no
 // edge of its own block has come. 0 is nothing.
 pub const UNMET: u32 = 2147483648;
@@ -16,12 +13,7 @@ pub const UNMET: u32 = 2147483648;
 fn one_less(number: u32, flag: bool) -> u32
     ensures { result ≡ number - one_if flag }
 {
-    if flag {
-        if 0 < number {
-            return number - 1;
-        }
-    }
-    number
+    number.saturating_sub(u32::from(flag))
 }
 
 // What is waited for when an edge has come, which leads down or not, and is of the vertex's own block or not.
@@ -42,10 +34,7 @@ fn next(pending: u32, down: bool, own: bool) -> u32
 fn waits(pending: u32) -> u32
     ensures { result ≡ waiting pending }
 {
-    if pending == 0 {
-        return 0;
-    }
-    1
+    u32::from(pending != 0)
 }
 
 // Takes an edge at one of its ends, x, if that waits; `low` is the edge's lower end, whose block is the edge's. Answers 1 if x waits no
@@ -54,12 +43,12 @@ fn pass(x: u32, low: u32, block: &[u32], pending: &mut [u32], edges_taken: &mut 
     requires { Passable x low block.now pending.old edges_taken.old }
     ensures { Passes x low block.now pending.old edges_taken.old pending.new edges_taken.new result }
 {
-    let at = wide(x);
+    let at = x as usize;
     let before = pending[at];
     if before == 0 {
         return 0;
     }
-    let after = next(before, x != low, block[at] == block[wide(low)]);
+    let after = next(before, x != low, block[at] == block[low as usize]);
     edges_taken[at] += 1;
     pending[at] = after;
     1 - waits(after)
@@ -71,10 +60,8 @@ fn count_waiting(pending: &[u32]) -> u32
     ensures { result ≡ waiting_in pending.now }
 {
     let mut count = 0;
-    let mut x = 0;
-    while x < pending.len() {
-        count += waits(pending[x]);
-        x += 1;
+    for &number in pending {
+        count += waits(number);
     }
     count
 }
@@ -84,17 +71,13 @@ pub fn settle(edges: &[u32], block: &[u32], pending: &mut [u32], edges_taken: &m
     requires { Sweepable (edges_of edges.now) block.now pending.old edges_taken.old }
     ensures { Swept (edges_of edges.now) block.now pending.old edges_taken.old edges_taken.new }
 {
-    let m = edge::count(edges);
     let mut waiting = count_waiting(pending);
-    let mut i = 0;
-    while i < m {
+    for tie in edge::ties(edges) {
         if waiting == 0 {
             return;
         }
-        let e = edge::at(edges, i);
-        let low = end_of(false, e.a, e.b);
-        waiting -= pass(e.a, low, block, pending, edges_taken);
-        waiting -= pass(e.b, low, block, pending, edges_taken);
-        i += 1;
+        let low = tie.lower();
+        waiting -= pass(tie.a, low, block, pending, edges_taken);
+        waiting -= pass(tie.b, low, block, pending, edges_taken);
     }
 }

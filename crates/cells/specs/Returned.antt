@@ -2,10 +2,9 @@
 -- totals of a report, where the forest moved or what lies between two vertices, go to cells, which a refusal leaves as they were. No refusal
 -- has the number 0, so nothing is lost.
 -- Assumes nothing.
-use Rattle.std.specs.Prelude.{ℕ}
+use Rattle.std.specs.Prelude.{ℕ, Option}
 use Rattle.refusal.specs.Verdict.{Verdict, accepted, refused, number}
 use Rattle.refusal.specs.Outcome.{Outcome, Done}
-use Rattle.moved.specs.declared.Moved.{Moved}
 use Rattle.moved.specs.Moved.{moved_rank}
 use Rattle.cost.specs.declared.Totals.{Totals}
 use Rattle.ancestry.specs.declared.Separator.{Separator}
@@ -68,7 +67,7 @@ handed_cells hold was o = filled_cells (number o.verdict) (told hold o.verdict w
 abbrev pub handed_totals : {A : Type 0} → TotalsCells → Outcome Totals A → FilledCells TotalsCells A
 handed_totals was o = handed_cells cells_of was o
 
-abbrev pub handed_rank : {A : Type 0} → ℕ → Outcome Moved A → FilledCells ℕ A
+abbrev pub handed_rank : {A : Type 0} → ℕ → Outcome (Option ℕ) A → FilledCells ℕ A
 handed_rank was o = handed_cells moved_rank was o
 
 abbrev pub handed_separator : {A : Type 0} → SeparatorCells → Outcome Separator A → FilledCells SeparatorCells A

@@ -4,45 +4,51 @@
 
 ghost use Rattle.std.specs.Prelude.{◌≡◌};
 ghost use Rattle.refusal.specs.Verdict.{number};
+ghost use Rattle.refusal.specs.Numbers.{verdict};
 ghost use Rattle.moved.specs.Moved.{moved_rank};
-ghost use Rattle.moved.specs.Answer.{verdict as growth_verdict};
-ghost use Rattle.cost.specs.Answer.{verdict as report_verdict};
-ghost use Rattle.query.specs.Query.{place_of};
-ghost use Rattle.ancestry.specs.Answer.{verdict as separator_verdict};
+ghost use Rattle.query.specs.Query.{place_of, place};
 ghost use Rattle.cells.specs.Returned.{told, cells, cells_of, separator_cells, separator_cells_of};
 
-use ancestry::SeparatorAnswer;
-use cost::ReportAnswer;
-use moved::GrowthAnswer;
-use query::Place;
+use ancestry::Separator;
+use cost::Totals;
+use query::Run;
+use refusal::Refusal;
 
-// Hands over where a forest moved, as a rank.
-pub fn hand_rank(answer: GrowthAnswer, moved: &mut u32) -> u32
-    ensures { (result ≡ number (growth_verdict answer)) × (moved.new ≡ told moved_rank (growth_verdict answer) moved.old) }
+// Hands over an answer without values.
+pub fn number(answer: Result<(), Refusal>) -> u32
+    ensures { result ≡ number (verdict answer) }
 {
     match answer {
-        GrowthAnswer::Accepted(its) => {
-            *moved = moved::moved_rank(its);
-            0
-        }
-        GrowthAnswer::Refused(number) => number,
+        Ok(()) => 0,
+        Err(refusal) => refusal.number(),
     }
+}
+
+// Hands over where a forest moved, as a rank.
+pub fn hand_rank(answer: Result<Option<u32>, Refusal>, moved: &mut u32) -> u32
+    ensures { (result ≡ number (verdict answer)) × (moved.new ≡ told moved_rank (verdict answer) moved.old) }
+{
+    *moved = match answer {
+        Ok(its) => moved::moved_rank(its),
+        Err(refusal) => return refusal.number(),
+    };
+    0
 }
 
 // Hands over what a report answers: the number of blocks that its share knows is the caller's own.
 pub fn hand_totals(
-    answer: ReportAnswer,
+    answer: Result<Totals, Refusal>,
     bound: &mut u64,
     volume: &mut u64,
     quotient: &mut u32,
     remainder: &mut u32,
 ) -> u32
-    ensures { (result ≡ number (report_verdict answer))
+    ensures { (result ≡ number (verdict answer))
         × (cells bound.new volume.new quotient.new remainder.new
-        ≡ told cells_of (report_verdict answer) (cells bound.old volume.old quotient.old remainder.old)) }
+        ≡ told cells_of (verdict answer) (cells bound.old volume.old quotient.old remainder.old)) }
 {
     match answer {
-        ReportAnswer::Accepted(totals) => {
+        Ok(totals) => {
             let share = totals.share;
             *bound = totals.bound;
             *volume = totals.volume;
@@ -50,31 +56,39 @@ pub fn hand_totals(
             *remainder = share.remainder();
             0
         }
-        ReportAnswer::Refused(number) => number,
+        Err(refusal) => refusal.number(),
     }
 }
 
-// Hands over the place of a part of an index. Refused, it is an empty part at the front.
-pub fn hand_place(part: Place, first: &mut u64, count: &mut u64) -> u32
-    ensures { place_of result first.new count.new ≡ part }
+// Hands over the run of a vertex in an index. Refused, it is an empty part at the front.
+pub fn hand_place(answer: Result<Run, Refusal>, first: &mut u64, count: &mut u64) -> u32
+    ensures { place_of result first.new count.new ≡ place answer }
 {
-    *first = table::amount(part.first);
-    *count = table::amount(part.count);
-    part.number
+    match answer {
+        Ok(run) => {
+            *first = u64::from(run.first);
+            *count = u64::from(run.count);
+            0
+        }
+        Err(refusal) => {
+            *first = 0;
+            *count = 0;
+            refusal.number()
+        }
+    }
 }
 
 // Hands over what lies between two vertices: how many vertices that is, and the lowest, as a rank.
-pub fn hand_separator(answer: SeparatorAnswer, count: &mut u32, lowest: &mut u32) -> u32
-    ensures { (result ≡ number (separator_verdict answer))
-        × (separator_cells count.new lowest.new ≡ told separator_cells_of (separator_verdict answer) (separator_cells count.old lowest.old)) }
+pub fn hand_separator(answer: Result<Separator, Refusal>, count: &mut u32, lowest: &mut u32) -> u32
+    ensures { (result ≡ number (verdict answer))
+        × (separator_cells count.new lowest.new ≡ told separator_cells_of (verdict answer) (separator_cells count.old lowest.old)) }
 {
     match answer {
-        SeparatorAnswer::Accepted(its) => {
-            let vertex = its.lowest;
+        Ok(its) => {
             *count = its.count;
-            *lowest = ancestry::lowest_rank(vertex);
+            *lowest = ancestry::lowest_rank(its.lowest);
             0
         }
-        SeparatorAnswer::Refused(number) => number,
+        Err(refusal) => refusal.number(),
     }
 }

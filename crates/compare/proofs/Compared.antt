@@ -6,11 +6,9 @@ use mathlib.Core.List.{List}
 use Prim.Native.Nat.{ℕ, ◌^◌, ◌≤◌, ◌<◌}
 use native.Mathlib.Omega.{arith}
 use lib.ListN.{length, replicate, length-replicate}
-use Rattle.game.specs.Edge.{without_rows, ties, edges}
+use Rattle.game.specs.Edge.{ties, edges}
 use Rattle.game.specs.Game.{absent}
-use Rattle.game.specs.Net.{Net, net, net_of, weights}
-use Rattle.game.proofs.Forest.{forest-length}
-use Rattle.game.proofs.Weights.{weights-length}
+use Rattle.game.specs.Net.{net, net_of, weights}
 use Rattle.refusal.specs.Refusal.{first_fault}
 use Rattle.compare.specs.Likeness.{same_net}
 use Rattle.bucket.specs.CountingSteps.{Sweepable, Sweeps}
@@ -78,13 +76,6 @@ module _ {p w xs cp cw e j l : List ℕ} (c : Comparable (net p w) xs (net cp cw
     (g : GrowsNet xs (net cp cw) (net cp' cw') (work_of e' j' l')) where
   net-is : net cp' cw' ≡ net_of (length p) (ties xs)
   net-is = g.is ∙ ap (λ (n : ℕ). net_of n (ties xs)) (sym c.parents)
-
-  pub tables-fit : (length p ≡ length cp') × (length w ≡ length cw')
-  unfolding net_of
-  tables-fit = (
-    sym (ap (λ (of : Net). length of.parents) net-is ∙ forest-length (length p) (without_rows (ties xs))),
-    c.weights ∙ sym c.parents ∙ sym (ap (λ (of : Net). length of.weights) net-is ∙ weights-length (length p) (ties xs)),
-  )
 
   answers : {r : Bool} → r ≡ same_net (net p w) (net cp' cw') → r ≡ same_net (net p w) (net_of (length p) (ties xs))
   answers s = s ∙ ap (same_net (net p w)) net-is

@@ -1,15 +1,12 @@
--- Tables and nets that pass the test of sameness are one, and a scan decides it.
+-- Tables and nets that pass the test of sameness are one, and `==` decides it.
 -- Assumes nothing.
-use mathlib.Core.Path.{◌≡◌, refl, ap₂}
-use mathlib.Core.Bool.{true, false, false≢true}
+use mathlib.Core.Path.{◌≡◌, refl, ap, ap₂}
+use mathlib.Core.Bool.{Bool, true, ◌&&◌, false≢true}
 use mathlib.Core.List.{List, [], ◌∷◌}
-use Prim.Native.Nat.{ℕ, ◌+◌, ◌≤◌, ◌<◌}
-use native.Mathlib.Numerals.{add-one}
-use native.Mathlib.Omega.{arith}
+use Prim.Native.Nat.{ℕ}
 use lib.Dec.{eqb}
-use lib.ListN.{length, get_or, drop, drop_of_length-le}
-use lib.Seq.{drop-cons}
-use borrow.Author.Tests.{eq-eqb, ne_eqb, eqb-true}
+use lib.Pointwise.{pointwise}
+use borrow.Author.Tests.{eq-eqb, eqb-true}
 use Rattle.game.specs.Net.{Net, net}
 use Rattle.game.proofs.Bools.{and_both, both-and}
 use Rattle.compare.specs.Likeness.{same_table, same_net}
@@ -38,16 +35,10 @@ pub net-same : (one other : Net) → one ≡ other → same_net one other ≡ tr
 unfolding same_net
 net-same one other e = rw e (both-and (same_table other.parents other.parents) (same_table other.weights other.weights) (table_same other.parents) (table_same other.weights))
 
--- A scan of two tables of one length, at i: what is left decides.
-module _ (xs ys : List ℕ) (i : ℕ) (long : length xs ≡ length ys) where
-  pub scan-differs : i < length xs → (get_or xs i 0 ≡ get_or ys i 0 → ⊥) → same_table (drop i xs) (drop i ys) ≡ false
-  unfolding same_table
-  scan-differs h d = let l : i < length ys = omega arith in rw (drop-cons xs i 0, drop-cons ys i 0, ne_eqb (get_or xs i 0) (get_or ys i 0) d)
-
-  pub scan-agrees : i < length xs → get_or xs i 0 ≡ get_or ys i 0 → same_table (drop (i + 1) xs) (drop (i + 1) ys) ≡ same_table (drop i xs) (drop i ys)
-  unfolding same_table
-  scan-agrees h e = let l : i < length ys = omega arith in rw (add-one, drop-cons xs i 0, drop-cons ys i 0, eq-eqb (get_or xs i 0) (get_or ys i 0) e)
-
-  pub scan-over : length xs ≤ i → same_table (drop i xs) (drop i ys) ≡ true
-  unfolding same_table
-  scan-over h = let l : length ys ≤ i = omega arith in rw (drop_of_length-le xs h, drop_of_length-le ys l)
+-- slices compared by `==`
+pub pointwise_same : (xs ys : List ℕ) → pointwise eqb xs ys ≡ same_table xs ys
+unfolding same_table
+pointwise_same [] [] = refl
+pointwise_same [] (y ∷ ys) = refl
+pointwise_same (x ∷ xs) [] = refl
+pointwise_same (x ∷ xs) (y ∷ ys) = ap (λ (b : Bool). eqb x y && b) (pointwise_same xs ys)

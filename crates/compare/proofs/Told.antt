@@ -6,14 +6,12 @@ use mathlib.Core.List.{List}
 use Prim.Native.Nat.{ℕ}
 use native.Mathlib.Omega.{arith}
 use lib.ListN.{length}
-use Rattle.game.specs.Edge.{without_rows, ties}
-use Rattle.game.specs.Net.{Net, net, net_of}
-use Rattle.game.proofs.Forest.{forest-length}
-use Rattle.game.proofs.Weights.{weights-length}
+use Rattle.game.specs.Edge.{ties}
+use Rattle.game.specs.Net.{net, net_of}
 use Rattle.refusal.specs.Verdict.{Verdict}
 use Rattle.refusal.specs.Outcome.{ended}
 use Rattle.growth.specs.Work.{NetWithWork, with_work, work_of, cleared}
-use Rattle.moved.specs.declared.Moved.{Moved}
+use Rattle.std.specs.Prelude.{Option}
 use Rattle.start.specs.Start.{start_outcome}
 use Rattle.add.specs.Add.{add_outcome}
 use Rattle.forest.proofs.FirstList.{FirstList, first-net}
@@ -24,21 +22,13 @@ module _ {p w xs cp cw e j l : List ℕ} (t : Tellable (net p w) xs (net cp cw) 
   first : FirstList xs (net cp cw) (work_of e j l)
   first = record { fits = t.compares.growable; some = omega (arith, t.some, t.compares.parents); all = t.all }
 
-  module _ {m : Verdict (Unit {0})} {m' : Verdict Moved} {p' w' p'' w'' e'' j'' l'' : List ℕ} (start : ended m (net p' w') ≡ start_outcome (net cp cw))
+  module _ {m : Verdict (Unit {0})} {m' : Verdict (Option ℕ)} {p' w' p'' w'' e'' j'' l'' : List ℕ} (start : ended m (net p' w') ≡ start_outcome (net cp cw))
       (add : ended m' (with_work (net p'' w'') (work_of e'' j'' l'')) ≡ add_outcome (with_work (net p' w') (work_of e j l)) xs) where
     left : with_work (net p'' w'') (work_of e'' j'' l'') ≡ with_work (net_of (length p) (ties xs)) (cleared (work_of e j l))
     left = first-net first start add ∙ ap (λ (n : ℕ). with_work (net_of n (ties xs)) (cleared (work_of e j l))) (sym t.compares.parents)
 
     grown : net p'' w'' ≡ net_of (length p) (ties xs)
     grown = ap (λ (g : NetWithWork). g.net) left
-
-    -- the tables of both nets have one length
-    pub told-lengths : (length p ≡ length p'') × (length w ≡ length w'')
-    unfolding net_of
-    told-lengths = (
-      sym (ap (λ (of : Net). length of.parents) grown ∙ forest-length (length p) (without_rows (ties xs))),
-      t.compares.weights ∙ sym t.compares.parents ∙ sym (ap (λ (of : Net). length of.weights) grown ∙ weights-length (length p) (ties xs)),
-    )
 
     pub told : {r : Bool} → r ≡ same_net (net p w) (net p'' w'') → Told (net p w) (ties xs) (work_of e j l) r (net p'' w'') (work_of e'' j'' l'')
     told s = record { answer = s ∙ ap (same_net (net p w)) grown; net = grown; clear = ap (λ (g : NetWithWork). g.work) left }

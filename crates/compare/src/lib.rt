@@ -43,10 +43,11 @@ fn grow_net(
     ensures { GrowsNet edges.now (net parents.old weights.old) (net parents.new weights.new)
         (work_of ends.new jump.new lower.new) }
 {
-    table::fill(parents, Net::ABSENT);
-    table::fill(weights, 0);
-    table::fill(ends, 0);
-    bucket::sweep(edges, ends, weights);
+    parents.fill(Net::ABSENT);
+    weights.fill(0);
+    ends.fill(0);
+    // A list that fits has no fault, so the sweep accepts it.
+    let _ = bucket::sweep(edges, ends, weights);
     bucket::file_counted(edges, ends, lower);
     growth::grow_kept(parents, ends, jump, lower);
 }

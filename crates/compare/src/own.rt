@@ -20,7 +20,8 @@ pub fn is_own(
     ensures { Told (net parents.now weights.now) (ties_of edges.now) (work_of ends.old jump.old lower.old)
         result (net compared_parents.new compared_weights.new) (work_of ends.new jump.new lower.new) }
 {
-    forest::start(compared_parents, compared_weights);
-    forest::add(compared_parents, compared_weights, edges, ends, jump, lower);
+    // What fits is refused by neither.
+    let _ = forest::start(compared_parents, compared_weights);
+    let _ = forest::add(compared_parents, compared_weights, edges, ends, jump, lower);
     crate::likeness::same_net(parents, weights, compared_parents, compared_weights)
 }

@@ -39,7 +39,8 @@ volume_of net es B k = volume (length net.parents) k (divided net B k).block es
 unfoldable pub share_of : Net → ℕ → Share
 share_of net k = even_share (total net) k
 
--- what a report answers: the code's own record of the three
+-- what Report hands back, accepted: document 01, it "answers bound .. and volume", document 02, Paper 4, and "the even share"; refused,
+-- "the answer is the number alone". This is the code's own record of the three
 abbrev pub totals : (bound volume : ℕ) → Share → Totals
 totals b v s = record { bound = b; volume = v; share = s }
 

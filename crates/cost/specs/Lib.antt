@@ -1,5 +1,4 @@
 -- What a division costs, and the blocks as nets of their own.
-pub mod Answer
 pub mod Figures
 pub mod Laid
 pub mod Steps

@@ -11,7 +11,6 @@ ghost use Rattle.block_count.specs.BlockCount.{edge_blocks_of};
 ghost use Rattle.cost.specs.Steps.{ReportTables, summed};
 
 use share::Share;
-use table::wide;
 
 // What a report answers of a division: the bound and the volume of communication, and the even share of a block.
 #[derive(Drop)]
@@ -19,13 +18,6 @@ pub struct Totals {
     pub bound: u64,
     pub volume: u64,
     pub share: Share,
-}
-
-// What Report answers: the totals of the division, or the number of document 01's table for which it was refused.
-#[derive(Drop)]
-pub enum ReportAnswer {
-    Accepted(Totals),
-    Refused(u32),
 }
 
 // Sums the tables of a report up.
@@ -55,11 +47,7 @@ pub fn write_edge_blocks(edges: &[u32], block: &[u32], edge_blocks: &mut [u32])
     requires edge_blocks_len { length edge_blocks.old ≡ length (edges_of edges.now) }
     ensures { edge_blocks.new ≡ edge_blocks_of block.now (edges_of edges.now) }
 {
-    let m = edge::count(edges);
-    let mut i = 0;
-    while i < m {
-        let e = edge::at(edges, i);
-        edge_blocks[i] = block[wide(bucket::end_of(false, e.a, e.b))];
-        i += 1;
+    for (i, tie) in edge::ties(edges).enumerate() {
+        edge_blocks[i] = block[tie.lower() as usize];
     }
 }

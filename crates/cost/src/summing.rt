@@ -4,7 +4,6 @@ ghost use Rattle.refusal.specs.Limits.{max_vertices};
 ghost use Rattle.cost.specs.SummingSteps.{cut_reach, bound_by, volume_by};
 
 use net::Net;
-use table::amount;
 
 // What vertex x adds to the bound: its reach, if it is cut.
 fn cut_reach(x: usize, parent: u32, top: u32, reach: u32) -> u64
@@ -16,7 +15,7 @@ fn cut_reach(x: usize, parent: u32, top: u32, reach: u32) -> u64
     if parent == Net::ABSENT {
         return 0;
     }
-    amount(reach)
+    u64::from(reach)
 }
 
 // The bound: the sum of the reaches of the cut vertices.
@@ -25,10 +24,8 @@ pub fn bound(parents: &[u32], top: &[u32], reach: &[u32]) -> u64
     ensures { result ≡ bound_by parents.now top.now reach.now }
 {
     let mut sum: u64 = 0;
-    let mut x = 0;
-    while x < parents.len() {
-        sum += cut_reach(x, parents[x], top[x], reach[x]);
-        x += 1;
+    for (x, &parent) in parents.iter().enumerate() {
+        sum += cut_reach(x, parent, top[x], reach[x]);
     }
     sum
 }
@@ -37,10 +34,7 @@ pub fn bound(parents: &[u32], top: &[u32], reach: &[u32]) -> u64
 fn shared(count: u32) -> u64
     ensures { result ≡ count - 1 }
 {
-    if count == 0 {
-        return 0;
-    }
-    amount(count - 1)
+    u64::from(count.saturating_sub(1))
 }
 
 // The volume: the sum of the block counts, less one each.
@@ -49,10 +43,8 @@ pub fn volume(block_count: &[u32]) -> u64
     ensures { result ≡ volume_by block_count.now }
 {
     let mut sum: u64 = 0;
-    let mut x = 0;
-    while x < block_count.len() {
-        sum += shared(block_count[x]);
-        x += 1;
+    for &count in block_count {
+        sum += shared(count);
     }
     sum
 }

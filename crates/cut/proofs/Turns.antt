@@ -224,9 +224,6 @@ module _ {x weight uncut₀ B floor first : ℕ} {next carried was : List ℕ} (
       unfolding carries
       above = omega (arith, l, t.together)
 
-      pub cut_inside : at < length link
-      cut_inside = rw a lower.1
-
       pub cut-least : f ≤ uncut
       cut-least = omega (arith, b.carries, t.together, sum-entry-in (entry carried) b.heaviest.inside)
 

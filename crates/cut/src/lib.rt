@@ -5,7 +5,6 @@ ghost use Rattle.std.specs.Prelude.{◌≡◌, cond, eqb};
 ghost use Rattle.cut.specs.Steps.{Loaded, Candidates, Trimmed};
 
 use net::Net;
-use table::wide;
 
 // What a child carries if it still hangs on x, else 0.
 fn weight_on(x: u32, link: u32, carried: u32) -> u32
@@ -43,7 +42,7 @@ pub fn trim(
         let mut found = floor;
         let mut child = start;
         while child != Net::ABSENT && found < most {
-            let at = wide(child);
+            let at = child as usize;
             let here = weight_on(x, link[at], carried[at]);
             if found < here {
                 found = here;
@@ -60,7 +59,7 @@ pub fn trim(
         if found == floor {
             break 'cut;
         }
-        let at = wide(heaviest);
+        let at = heaviest as usize;
         link[at] = heaviest;
         uncut -= found;
         most = found;

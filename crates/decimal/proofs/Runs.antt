@@ -1,13 +1,13 @@
 -- Text that is put behind text.
 -- Assumes nothing.
-use mathlib.Core.Path.{◌≡◌, refl, sym, ap, subst, ◌∙◌}
-use mathlib.Core.List.{List, [], ◌∷◌, ◌++◌}
-use Prim.Native.Nat.{ℕ, ◌+◌, ◌≤◌, ◌<◌}
+use mathlib.Core.Path.{◌≡◌, refl, sym, ap, ◌∙◌}
+use mathlib.Core.List.{List, [], ◌++◌, append_assoc}
+use Prim.Native.Nat.{ℕ, ◌+◌, ◌≤◌}
 use native.Mathlib.Nat.{add-zero}
-use native.Mathlib.Numerals.{add-one}
 use native.Mathlib.Omega.{arith}
-use lib.ListN.{length, get_or, take, drop, length-append}
-use lib.Seq.{sets, length-sets, take-suc, sets-eq, take_at, drop_at, take_all, length-take-le}
+use lib.ListN.{length, take, drop, length-append}
+use lib.Seq.{sets, length-sets, sets-eq, take_at, drop_at, drop-drop}
+use borrow.Rule.Slice.PartMut.{put_mid}
 use Rattle.words.proofs.Stores.{stores-append}
 use Rattle.decimal.specs.Put.{PutText}
 
@@ -38,17 +38,11 @@ put_front {was} {text} {now} {end} p =
       omega (arith, p.fits, p.ends, put-length p),
     )
 
--- a byte string is put byte by byte
-pub put_next : {was mid now : List ℕ} {at between end : ℕ} (text : List ℕ) (i : ℕ) → i < length text → PutText was at (take i text) mid between
-    → PutText mid between (get_or text i 0 ∷ []) now end → PutText was at (take (i + 1) text) now end
-put_next {was} {now = now} {at} {end = end} text i h p q =
-    subst (λ (front : List ℕ). PutText was at front now end) (sym (ap (λ (k : ℕ). take k text) (add-one i) ∙ take-suc text i 0 h)) (put_on p q)
-
--- there is room for the next byte
-pub put-room : {was mid : List ℕ} {at between : ℕ} (text : List ℕ) (i : ℕ) → i < length text → at + length text ≤ length was
-    → PutText was at (take i text) mid between → between < length mid
-put-room text i h room p = omega (arith, p.ends, put-length p, length-take-le i text (omega arith))
-
--- all of it is put
-pub put_all : {was now : List ℕ} {at end : ℕ} (text : List ℕ) (i : ℕ) → length text ≤ i → PutText was at (take i text) now end → PutText was at text now end
-put_all {was} {now} {at} {end} text i h p = subst (λ (front : List ℕ). PutText was at front now end) (take_all i text h) p
+-- a byte string is copied to where it is put
+pub put_part : {was text part : List ℕ} {at k : ℕ} → at + length text ≤ length was → part ≡ text → k ≡ length text → PutText was at text (put_mid at k was part) (at + length text)
+put_part {was} {text} {at = at} {k} h e s =
+    record {
+      fits = h;
+      table = (λ i. take at was ++ (e i ++ (drop-drop k at was ∙ ap (λ (m : ℕ). drop (at + m) was) s) i)) ∙ sym (append_assoc (take at was) text _) ∙ sym (sets-eq text was at h);
+      ends = refl;
+    }

@@ -82,6 +82,10 @@ module _ {p w : List ℕ} {B : ℕ} (d : Divisible p w B) where
     loads-size : length loads ≡ k
     loads-size = loads-length (top_in tops) weight k (length p)
 
+    -- a load for each block
+    pub block-loads-long : length (divided (net p w) B k).block_loads ≡ k
+    block-loads-long = ap length loads-are ∙ loads-size
+
     loads-total : sum loads ≡ sum w
     loads-total = loads-sum (top_in tops) weight k some (length p) ∙ groups-weight d grouped
 

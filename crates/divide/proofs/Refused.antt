@@ -1,16 +1,14 @@
 -- Laws of Divide's refusals: each test where it is reached, and what an accepted call knows.
 -- Assumes nothing.
 use mathlib.Core.Path.{◌≡◌, refl, sym, ap, ◌∙◌}
-use mathlib.Core.Bool.{Bool, true, false, ◌||◌}
+use mathlib.Core.Bool.{Bool, true, false, not, ◌||◌}
+use Rattle.std.proofs.Common.{nat_eq}
 use mathlib.Core.List.{List, [], ◌∷◌}
 use Prim.Native.Nat.{ℕ}
 use native.Mathlib.Omega.{arith}
 use lib.ListN.{length}
 use Rattle.game.specs.Table.{sum}
 use Rattle.refusal.specs.Refusal.{given, bad_count, wrong_length}
-use Rattle.refusal.specs.Verdict.{accepted, refused}
-use Rattle.refusal.specs.Outcome.{ended}
-use Rattle.refusal.proofs.Ends.{ends-refused, ends-accepted}
 use Rattle.refusal.proofs.First.{pass, stop, first-end, first-none, given-none, length-right, good-count}
 use Rattle.game.specs.Net.{Net, net}
 use Rattle.net.specs.Damage.{damaged_by, damaged}
@@ -21,7 +19,7 @@ use Rattle.divide.specs.Steps.{Fitting}
 use Rattle.cut.specs.Steps.{Divisible}
 use Rattle.refusal.specs.DivisionLimits.{bad_limits, too_heavy}
 use Rattle.refusal.proofs.DivisionLimits.{limits-not, heavy-not}
-use Rattle.divide.specs.Divide.{DivisionTables, wrong_tables, divide_refusal, divided, divide_outcome}
+use Rattle.divide.specs.Divide.{DivisionTables, wrong_tables, divide_refusal}
 
 -- right lengths
 pub record Sized (net : Net) (k : ℕ) (was : DivisionTables) : Type 0 where
@@ -61,18 +59,16 @@ tables-not net k was e =
     b : Bool
     b = wrong_length (length was.block) n
 
--- 2, by the lengths that the code compares
-pub tables-as : (net : Net) (k : ℕ) (was : DivisionTables) {blocks : ℕ} {r : Bool} → blocks ≡ k
-    → r ≡ (wrong_length (length net.weights) (length net.parents) || wrong_length (length was.carried) (length net.parents) || wrong_length (length was.top) (length net.parents) || wrong_length (length was.block) (length net.parents) || wrong_length (length was.block_loads) blocks)
-    → wrong_tables net k was ≡ r
-unfolding wrong_tables
-tables-as net k was q e = sym (e ∙ rw q refl)
+-- 2, by the lengths that the code compares: the weights' first, then those of the tables that are lent
+pub weights-first : (w c t b l : Bool) {r : Bool} → r ≡ (c || t || b || l) → (w || c || t || b || l) ≡ (w || r)
+weights-first true c t b l e = refl
+weights-first false c t b l e = sym e
 
--- the first of the five lengths
-pub first-sized : (has needs : ℕ) (c t b l : Bool) → (wrong_length has needs || c || t || b || l) ≡ false → has ≡ needs
-first-sized has needs c t b l e =
-    let w = wrong_length has needs in
-    length-right has needs (or-neither w c (or-neither (w || c) t (or-neither (w || c || t) b (or-neither (w || c || t || b) l e).0).0).0).0
+pub tables-as : (net : Net) (k : ℕ) (was : DivisionTables) {r : Bool}
+    → r ≡ (wrong_length (length was.carried) (length net.parents) || wrong_length (length was.top) (length net.parents) || wrong_length (length was.block) (length net.parents) || wrong_length (length was.block_loads) k)
+    → wrong_tables net k was ≡ (not (nat_eq (length net.weights) (length net.parents)) || r)
+unfolding wrong_tables wrong_length
+tables-as net k was e = weights-first _ _ _ _ _ e
 
 -- a net's damage, by its summary
 pub damaged-as : (p w : List ℕ) {s : ℕ} {r : Bool} → s ≡ sum w → r ≡ damaged_by p s → damaged (net p w) ≡ r
@@ -152,14 +148,3 @@ divide-known p w B k was e =
           record { carried = lengths.carried; top = lengths.top; block = lengths.block; some = omega (arith, lengths.loads, limit.2); few = omega (arith, lengths.loads, limit.3) };
       blocks = lengths.loads;
     }
-
--- how Divide ends
-module _ (net : Net) (B k : ℕ) (was : DivisionTables) {m : ℕ} (e : m ≡ divide_refusal net B k was) where
-  pub divide-refused : (m ≡ 0 → ⊥) → ended (refused m) was ≡ divide_outcome net B k was
-  unfolding divide_outcome
-  divide-refused d = ends-refused (divide_refusal net B k was) tt was (divided net B k) e (λ z. d (e ∙ z)) refl
-
-  pub divide-accepted : m ≡ 0 → {j : ℕ} {new : DivisionTables} → j ≡ k → new ≡ divided net B j → ended (accepted tt) new ≡ divide_outcome net B k was
-  unfolding divide_outcome
-  divide-accepted z f g =
-      ends-accepted (divide_refusal net B k was) tt was (divided net B k) refl (sym e ∙ z) (g ∙ ap (divided net B) f)

@@ -3,3 +3,4 @@ pub mod Divide
 pub mod Division
 pub mod Paper
 pub mod Steps
+pub mod Tables

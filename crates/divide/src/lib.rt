@@ -2,94 +2,63 @@
 // and the weight of each vertex.
 #![tactic(auto)]
 
-ghost use Rattle.std.specs.Prelude.{◌≡◌, ◌||◌, length};
-ghost use Rattle.refusal.specs.Refusal.{wrong_length};
-ghost use Rattle.refusal.specs.Answer.{verdict};
+ghost use Rattle.std.specs.Prelude.{◌≡◌, length};
+ghost use Rattle.refusal.specs.Numbers.{code, verdict};
 ghost use Rattle.refusal.specs.Outcome.{ended};
 ghost use Rattle.game.specs.Net.{net};
-ghost use Rattle.divide.specs.Divide.{division_of, divided, divide_refusal, divide_outcome};
+ghost use Rattle.divide.specs.Divide.{divided, divide_refusal, divide_outcome};
+ghost use Rattle.divide.specs.Tables.{held, SameTables};
 ghost use Rattle.divide.specs.Steps.{Fitting};
 ghost use Rattle.cut.specs.Steps.{Divisible};
+
+pub mod tables;
 
 use groups::group;
 use net::Net;
 use pack::assign;
-use refusal::{Answer, bad_limits, too_heavy};
-use table::wide;
+use refusal::{Refusal, bad_limits, too_heavy};
+use tables::Division;
 
 // Divides a net that nothing speaks against: carried weight, top and block of each vertex, and the load of each block.
-pub fn cut_and_pack(
-    parents: &[u32],
-    weights: &[u32],
-    limit: u32,
-    carried: &mut [u32],
-    top: &mut [u32],
-    block: &mut [u32],
-    block_loads: &mut [u32],
-)
+pub fn cut_and_pack(parents: &[u32], weights: &[u32], limit: u32, division: &mut Division<'_>)
     requires divisible { Divisible parents.now weights.now limit }
-    requires fitting { Fitting (length parents.now) (division_of carried.old top.old block.old block_loads.old) }
-    ensures { division_of carried.new top.new block.new block_loads.new
-        ≡ divided (net parents.now weights.now) limit (length block_loads.old) }
+    requires fitting { Fitting (length parents.now) (held division.old) }
+    ensures outcome { held division.new ≡ divided (net parents.now weights.now) limit (length division.old.loads.now) }
+    ensures same { SameTables division.old division.new }
 {
-    group(parents, weights, limit, carried, top, block);
-    assign(top, carried, block, block_loads);
+    let carried = &mut *division.carried;
+    let top = &mut *division.top;
+    group(parents, weights, limit, carried, top, division.block);
+    assign(top, carried, division.block, division.loads);
 }
 
-// Refusal 2, by the tables' lengths: the loads are a table of the k blocks that are given, the others of n vertices.
-pub fn wrong_tables(
-    n: usize,
-    k: usize,
-    weights: usize,
-    carried: usize,
-    top: usize,
-    block: usize,
-    block_loads: usize,
-) -> bool
-    ensures { result ≡ (wrong_length weights n || wrong_length carried n || wrong_length top n || wrong_length block n || wrong_length block_loads k) }
-{
-    (weights != n) | (carried != n) | (top != n) | (block != n) | (block_loads != k)
-}
-
-// The number for which dividing is refused, or 0. The tables that would be written are only looked at for their lengths.
+// Whether dividing is refused, and for what. The tables that would be written are only looked at for their lengths.
 fn divide_refusal(
     parents: &[u32],
     weights: &[u32],
     limit: u32,
     blocks: u32,
-    carried: &[u32],
-    top: &[u32],
-    block: &[u32],
-    block_loads: &[u32],
-) -> u32
-    ensures { result
-        ≡ divide_refusal (net parents.now weights.now) limit blocks
-        (division_of carried.now top.now block.now block_loads.now) }
+    division: &Division<'_>,
+) -> Result<(), Refusal>
+    ensures { code result ≡ divide_refusal (net parents.now weights.now) limit blocks (held division.now) }
 {
-    if refusal::bad_count(parents.len()) {
-        return 1;
+    let n = parents.len();
+    if refusal::bad_count(n) {
+        return Err(Refusal::BadCount);
     }
-    if wrong_tables(
-        parents.len(),
-        wide(blocks),
-        weights.len(),
-        carried.len(),
-        top.len(),
-        block.len(),
-        block_loads.len(),
-    ) {
-        return 2;
+    if (weights.len() != n) | division.is_wrong(n, blocks as usize) {
+        return Err(Refusal::WrongLength);
     }
     if bad_limits(limit, blocks) {
-        return 8;
+        return Err(Refusal::BadLimit);
     }
     if Net::of(weights).is_damaged(parents) {
-        return 30;
+        return Err(Refusal::Damaged);
     }
     if too_heavy(limit, weights) {
-        return 22;
+        return Err(Refusal::TooHeavy);
     }
-    0
+    Ok(())
 }
 
 // Document 01's Divide, with a limit and a number of blocks: cuts the forest into groups of weight at most the limit, and packs the
@@ -100,28 +69,13 @@ pub fn divide(
     weights: &[u32],
     limit: u32,
     blocks: u32,
-    carried: &mut [u32],
-    top: &mut [u32],
-    block: &mut [u32],
-    block_loads: &mut [u32],
-) -> Answer
-    ensures { ended (verdict result) (division_of carried.new top.new block.new block_loads.new)
-        ≡ divide_outcome (net parents.now weights.now) limit blocks
-        (division_of carried.old top.old block.old block_loads.old) }
+    division: &mut Division<'_>,
+) -> Result<(), Refusal>
+    ensures outcome { ended (verdict result) (held division.new)
+        ≡ divide_outcome (net parents.now weights.now) limit blocks (held division.old) }
+    ensures same { SameTables division.old division.new }
 {
-    let code = divide_refusal(
-        parents,
-        weights,
-        limit,
-        blocks,
-        carried,
-        top,
-        block,
-        block_loads,
-    );
-    if code != 0 {
-        return Answer::Refused(code);
-    }
-    cut_and_pack(parents, weights, limit, carried, top, block, block_loads);
-    Answer::Accepted
+    divide_refusal(parents, weights, limit, blocks, division)?;
+    cut_and_pack(parents, weights, limit, division);
+    Ok(())
 }

@@ -1,19 +1,24 @@
-// Ties of a flat list, by their number in it: an edge's two ends, and its rows. This is the one place that knows how many numbers a tie
-// takes and where they stand.
+// Ties of a flat list, one after another: an edge's two ends, and its rows. This is the one place that knows how many numbers a tie takes
+// and where they stand.
 #![tactic(auto)]
 
-ghost use Rattle.std.specs.Prelude.{◌≡◌, ◌+◌, ◌*◌, ◌^◌, ◌≤◌, ◌<◌, length, get_or, set, drop};
-ghost use Rattle.game.specs.Edge.{edges as edges_of, ties as ties_of, ◌─◌, tie_of};
+mod tie;
+
+ghost use Rattle.std.specs.Prelude.{◌≡◌, ◌+◌, ◌*◌, ◌^◌, ◌≤◌, ◌<◌, length, set, drop};
+ghost use Rattle.game.specs.Edge.{edges as edges_of, ties as ties_of};
 ghost use Rattle.game.specs.Net.{charges as charges_of};
+ghost use Rattle.edge.specs.Tie.{ties_left};
+
+pub use tie::{Iter, Tie};
 
 // The numbers to a tie in a flat list.
 pub const STRIDE: usize = 3;
 
-// An edge, by its two ends as they are written.
-#[derive(Drop)]
-pub struct Edge {
-    pub a: u32,
-    pub b: u32,
+// The ties of a flat list. Numbers at its end that make no whole tie are left out.
+pub fn ties(list: &[u32]) -> Iter<'_>
+    ensures { ties_left result ≡ ties_of list.now }
+{
+    Iter { list }
 }
 
 // How many ties a flat list has. Numbers at its end that make no whole tie are left out.
@@ -21,26 +26,6 @@ pub fn count(list: &[u32]) -> usize
     ensures { result ≡ length (edges_of list.now) }
 {
     list.len() / STRIDE
-}
-
-// The edge with number i, from 0.
-pub fn at(list: &[u32], i: usize) -> Edge
-    requires { i < length (edges_of list.now) }
-    ensures { (result.a ─ result.b) ≡ get_or (edges_of list.now) i (0 ─ 0) }
-{
-    let k = STRIDE * i;
-    Edge {
-        a: list[k],
-        b: list[k + 1],
-    }
-}
-
-// The rows of the tie with number i.
-pub fn rows(list: &[u32], i: usize) -> u32
-    requires { i < length (edges_of list.now) }
-    ensures { result ≡ (get_or (ties_of list.now) i (tie_of (0 ─ 0) 0)).rows }
-{
-    list[STRIDE * i + 2]
 }
 
 // The list from tie i on.
@@ -56,12 +41,9 @@ pub fn charges(list: &[u32]) -> u64
     requires { charges_of (ties_of list.now) < 2 ^ 64 }
     ensures { result ≡ charges_of (ties_of list.now) }
 {
-    let m = count(list);
     let mut sum: u64 = 0;
-    let mut i = 0;
-    while i < m {
-        sum += table::amount(rows(list, i));
-        i += 1;
+    for tie in ties(list) {
+        sum += u64::from(tie.rows);
     }
     sum
 }

@@ -20,20 +20,22 @@ ghost use Rattle.report.specs.Report.{lent, report_outcome};
 ghost use Rattle.separate.specs.Separate.{separate_tables, separate_outcome};
 ghost use Rattle.cells.specs.Returned.{returned, handed, filled_cells, cells, separator_cells, handed_totals, handed_rank, handed_separator};
 
-use cells::{hand_place, hand_rank, hand_separator, hand_totals};
+use cells::{hand_place, hand_rank, hand_separator, hand_totals, number};
+use divide::tables::Division;
+use report_write::tables::Figures;
 
 pub fn niqastul_relabel(order: &[u32], edges: &[u32], out: &mut [u32], inverse: &mut [u32]) -> u32
     ensures { returned result (relabel_tables out.new inverse.new)
         ≡ handed (relabel_outcome order.now edges.now (relabel_tables out.old inverse.old)) }
 {
-    refusal::code(relabel::relabel(order, edges, out, inverse))
+    number(relabel::relabel(order, edges, out, inverse))
 }
 
 pub fn niqastul_start(parents: &mut [u32], weights: &mut [u32]) -> u32
     ensures { returned result (net parents.new weights.new)
         ≡ handed (start_outcome (net parents.old weights.old)) }
 {
-    refusal::code(forest::start(parents, weights))
+    number(forest::start(parents, weights))
 }
 
 // Of an addition and a join the lowest vertex that moved goes into the cell, absent if none did.
@@ -82,14 +84,14 @@ pub fn niqastul_save(parents: &[u32], weights: &[u32], bytes: &mut [u8]) -> u32
     ensures { returned result bytes.new
         ≡ handed (save_outcome (net parents.now weights.now) bytes.old) }
 {
-    refusal::code(linkfile::save(parents, weights, bytes))
+    number(linkfile::save(parents, weights, bytes))
 }
 
 pub fn niqastul_read(parents: &mut [u32], weights: &mut [u32], bytes: &[u8]) -> u32
     ensures { returned result (net parents.new weights.new)
         ≡ handed (read_outcome (net parents.old weights.old) bytes.now) }
 {
-    refusal::code(linkfile::read(parents, weights, bytes))
+    number(linkfile::read(parents, weights, bytes))
 }
 
 pub fn niqastul_divide(
@@ -105,16 +107,13 @@ pub fn niqastul_divide(
     ensures { returned result (division_of carried.new top.new block.new block_loads.new)
         ≡ handed (divide_outcome (net parents.now weights.now) limit blocks (division_of carried.old top.old block.old block_loads.old)) }
 {
-    refusal::code(divide::divide(
-        parents,
-        weights,
-        limit,
-        blocks,
+    let mut division = Division {
         carried,
         top,
         block,
-        block_loads,
-    ))
+        loads: block_loads,
+    };
+    number(divide::divide(parents, weights, limit, blocks, &mut division))
 }
 
 // The figures of an accepted report go into the four cells; a refused one leaves the cells as they were.
@@ -152,20 +151,26 @@ pub fn niqastul_report(
         (net compared_parents.old compared_weights.old)
         (work_of ends.old jump.old lower.old))) }
 {
+    let mut division = Division {
+        carried,
+        top,
+        block,
+        loads: block_loads,
+    };
+    let mut figures = Figures {
+        edge_blocks,
+        reach,
+        block_count,
+        edges_taken,
+    };
     let answer = report::report(
         parents,
         weights,
         limit,
         blocks,
         edges,
-        carried,
-        top,
-        block,
-        block_loads,
-        edge_blocks,
-        reach,
-        block_count,
-        edges_taken,
+        &mut division,
+        &mut figures,
         compared_parents,
         compared_weights,
         ends,
@@ -184,7 +189,7 @@ pub fn niqastul_index(
     ensures { returned result (index starts.new neighbours.new)
         ≡ handed (index_outcome (index starts.old neighbours.old) old_edges.now added.now) }
 {
-    refusal::code(index::index(old_edges, added, starts, neighbours))
+    number(index::index(old_edges, added, starts, neighbours))
 }
 
 // The part of the index that a query hands back is told by its place and its length.
@@ -197,8 +202,8 @@ pub fn niqastul_query(
 ) -> u32
     ensures { place_of result first.new count.new ≡ query_place (index starts.now neighbours.now) rank }
 {
-    let part = query::locate(starts, neighbours, rank);
-    hand_place(part, first, count)
+    let answer = query::locate(starts, neighbours, rank);
+    hand_place(answer, first, count)
 }
 
 // How many vertices are above both, and the lowest of them, go into the two cells, absent for none; a refused call leaves the cells as they

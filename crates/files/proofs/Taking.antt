@@ -1,6 +1,6 @@
 -- Words that a loop takes from bytes into a table, one by one.
 -- Assumes nothing.
-use mathlib.Core.Path.{◌≡◌, refl, sym, ap, ◌∙◌}
+use mathlib.Core.Path.{◌≡◌, sym, ap, ◌∙◌}
 use mathlib.Core.List.{List, ◌∷◌, ◌++◌, append-nil}
 use Prim.Native.Nat.{ℕ, suc, ◌+◌, ◌*◌, ◌/◌, ◌≤◌, ◌<◌}
 use native.Mathlib.Numerals.{add-one}
@@ -14,9 +14,6 @@ use Rattle.words.proofs.Bytes.{words-drop, words-end}
 pub record Taken (bytes table : List ℕ) (i : ℕ) : Type 0 where
   pub long : length table ≡ length bytes / 4
   pub so_far : take i table ++ words (drop (4 * i) bytes) ≡ words bytes
-
-pub taken_none : (bytes table : List ℕ) → length table ≡ length bytes / 4 → Taken bytes table 0
-taken_none bytes table e = record { long = e; so_far = refl }
 
 module _ {bytes table : List ℕ} {i : ℕ} (t : Taken bytes table i) where
   pub taken-turn : {w : ℕ} → i < length table → w ≡ word_at bytes (4 * i) → Taken bytes (set table i w) (i + 1)

@@ -7,6 +7,7 @@ use mathlib.Core.Bool.{false}
 use Prim.Native.Nat.{ℕ, ◌+◌, ◌<◌}
 use native.Mathlib.Omega.{arith}
 use lib.ListN.{length}
+use Rattle.std.specs.Prelude.{Option}
 use Rattle.game.specs.Edge.{Tie, without_rows, ties, edges}
 use Rattle.game.specs.Net.{Net, net, net_of, total}
 use Rattle.game.proofs.Proper.{proper-nil}
@@ -18,7 +19,6 @@ use Rattle.refusal.specs.Verdict.{Verdict}
 use Rattle.refusal.specs.Outcome.{Outcome, ended, decided}
 use Rattle.refusal.proofs.First.{unless-accepted}
 use Rattle.refusal.proofs.Fault.{charges-most}
-use Rattle.moved.specs.declared.Moved.{Moved}
 use Rattle.growth.specs.Lists.{ListFits}
 use Rattle.growth.specs.Work.{Work, work_of, with_work, cleared}
 use Rattle.start.specs.Start.{start_refusal, start_outcome}
@@ -69,7 +69,7 @@ module _ {p w xs e j l : List ℕ} (c : FirstList xs (net p w) (work_of e j l)) 
   started o =
       accepted-tables (start_refusal (net p w)) tt (net p w) (net_of (length p) []) o (start-passes (record { some = c.some; few = c.fits.vertices; long = c.fits.weights }))
 
-  pub first-net : {m : Verdict (Unit {0})} {m' : Verdict Moved} {p' w' p'' w'' e'' j'' l'' : List ℕ} → ended m (net p' w') ≡ start_outcome (net p w)
+  pub first-net : {m : Verdict (Unit {0})} {m' : Verdict (Option ℕ)} {p' w' p'' w'' e'' j'' l'' : List ℕ} → ended m (net p' w') ≡ start_outcome (net p w)
       → ended m' (with_work (net p'' w'') (work_of e'' j'' l'')) ≡ add_outcome (with_work (net p' w') (work_of e j l)) xs
       → with_work (net p'' w'') (work_of e'' j'' l'') ≡ with_work (net_of (length p) (ties xs)) (cleared (work_of e j l))
   unfolding add_outcome

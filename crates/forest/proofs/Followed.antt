@@ -6,6 +6,7 @@ use mathlib.Core.List.{List, ◌++◌}
 use Prim.Native.Nat.{ℕ}
 use native.Mathlib.Omega.{arith}
 use lib.ListN.{length}
+use Rattle.std.specs.Prelude.{Option}
 use Rattle.game.specs.Edge.{Edge, without_rows, ties}
 use Rattle.game.specs.Game.{forest}
 use Rattle.game.specs.Tree.{links}
@@ -15,7 +16,6 @@ use Rattle.refusal.specs.Verdict.{accepted}
 use Rattle.refusal.specs.Outcome.{decided}
 use Rattle.refusal.proofs.First.{unless-accepted}
 use Rattle.refusal.proofs.Ends.{accepted-none, accepted-values}
-use Rattle.moved.specs.declared.Moved.{Moved}
 use Rattle.moved.specs.Moved.{moved_from, moved}
 use Rattle.moved.specs.Followed.{Followed}
 use Rattle.moved.proofs.Followed.{followed}
@@ -32,17 +32,17 @@ use Rattle.join_refusal.proofs.Accepted.{joinable}
 forest-followed : {of : Net} → Whole of → (es : List Edge) → let p : List ℕ = of.parents in let q : List ℕ = forest (length p) (links p ++ es) in Followed (moved_from 0 p q) p q
 forest-followed {of} w es = followed (forest-length _ _) (links-fall w.sound (omega (arith, w.few)) es) (omega (arith, w.few))
 
-module _ {m : Moved} where
+module _ {m : Option ℕ} where
   pub add-followed : (g : NetWithWork) (xs : List ℕ) → (add_outcome g xs).verdict ≡ accepted m → Followed m g.net.parents (add_outcome g xs).tables.net.parents
   unfolding add_outcome decided moved grown
   add-followed g xs a =
       let z = accepted-none (add_refusal g xs) _ a in
-      subst₂ (λ (k : Moved) (t : NetWithWork). Followed k g.net.parents t.net.parents) (accepted-values (add_refusal g xs) _ a) (sym (unless-accepted (add_refusal g xs) g _ z))
+      subst₂ (λ (k : Option ℕ) (t : NetWithWork). Followed k g.net.parents t.net.parents) (accepted-values (add_refusal g xs) _ a) (sym (unless-accepted (add_refusal g xs) g _ z))
       (forest-followed (addable g xs z).net (without_rows (ties xs)))
 
   pub join-followed : (g : NetWithWork) (other : Net) → (join_outcome g other).verdict ≡ accepted m → Followed m g.net.parents (join_outcome g other).tables.net.parents
   unfolding join_outcome decided moved joined
   join-followed g other a =
       let z = accepted-none (join_refusal g other) _ a in
-      subst₂ (λ (k : Moved) (t : NetWithWork). Followed k g.net.parents t.net.parents) (accepted-values (join_refusal g other) _ a) (sym (unless-accepted (join_refusal g other) g _ z))
+      subst₂ (λ (k : Option ℕ) (t : NetWithWork). Followed k g.net.parents t.net.parents) (accepted-values (join_refusal g other) _ a) (sym (unless-accepted (join_refusal g other) g _ z))
       (forest-followed (joinable g other z).net (links other.parents))

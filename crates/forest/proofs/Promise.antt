@@ -7,6 +7,7 @@ use mathlib.Core.List.{List, [], ◌∷◌, ◌++◌, zip_with}
 use Prim.Native.Nat.{ℕ, ◌+◌, ◌≤◌, ◌<◌}
 use native.Mathlib.Omega.{arith}
 use lib.ListN.{length}
+use Rattle.std.specs.Prelude.{Option}
 use Rattle.game.specs.Table.{sum}
 use Rattle.game.specs.Edge.{Tie, without_rows, ties}
 use Rattle.game.specs.Graph.{Proper}
@@ -25,7 +26,6 @@ use Rattle.refusal.proofs.Ends.{accepted-none}
 use Rattle.refusal.proofs.Never.{end-not, first-not, other-not, false-not, list-not, verdict-not}
 use Rattle.refusal.proofs.Fault.{faultless-proper}
 use Rattle.net.specs.Damage.{damaged}
-use Rattle.moved.specs.declared.Moved.{Moved}
 use Rattle.table.proofs.Zipped.{zip_length}
 use Rattle.growth.specs.Work.{NetWithWork}
 use Rattle.start.specs.Start.{start_refusal, start_outcome}
@@ -71,7 +71,7 @@ start-valid of a =
     let s = startable of z in
     subst Valid (sym (unless-accepted (start_refusal of) of _ z)) (net-valid [] s.some s.few (proper-nil (length of.parents)) (omega (arith, charges-empty)))
 
-pub add-valid : (g : NetWithWork) (xs : List ℕ) {m : Moved} → (add_outcome g xs).verdict ≡ accepted m → Valid (add_outcome g xs).tables.net
+pub add-valid : (g : NetWithWork) (xs : List ℕ) {m : Option ℕ} → (add_outcome g xs).verdict ≡ accepted m → Valid (add_outcome g xs).tables.net
 unfolding add_outcome decided grown
 add-valid g xs a =
     let z = accepted-none (add_refusal g xs) _ a in
@@ -88,7 +88,7 @@ add-valid g xs a =
       light = omega (arith, sum-zip g.net.weights (weights n (ties xs)) same, weights-charges (ties xs) proper, k.light);
     })
 
-pub join-valid : (g : NetWithWork) (other : Net) {m : Moved} → (join_outcome g other).verdict ≡ accepted m → Valid (join_outcome g other).tables.net
+pub join-valid : (g : NetWithWork) (other : Net) {m : Option ℕ} → (join_outcome g other).verdict ≡ accepted m → Valid (join_outcome g other).tables.net
 unfolding join_outcome decided joined
 join-valid g other a =
     let z = accepted-none (join_refusal g other) _ a in

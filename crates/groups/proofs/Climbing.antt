@@ -1,14 +1,13 @@
 -- Going down the ranks, each takes the top of what it hangs on. The table that results is the table of tops.
 -- Assumes nothing.
-use mathlib.Core.Path.{◌≡◌, refl, sym, ap, ◌∙◌}
+use mathlib.Core.Path.{◌≡◌, sym, ◌∙◌}
 use mathlib.Core.Logic.{◌≢◌, by_cases}
 use mathlib.Core.Bool.{Bool}
 use mathlib.Core.List.{List}
-use Prim.Native.Nat.{ℕ, zero, suc, ◌+◌, ◌-◌, ◌≤◌, ◌<◌}
-use native.Mathlib.Decide.{ℕ_discrete, dec_lt}
+use Prim.Native.Nat.{ℕ, zero, suc, ◌+◌, ◌≤◌, ◌<◌}
+use native.Mathlib.Decide.{dec_lt}
 use native.Mathlib.Omega.{arith}
-use lib.ListN.{length, get_or, set, length-set}
-use lib.Seq.{get_or-set_same, get_or-set_other}
+use lib.ListN.{length, get_or}
 use Rattle.game.specs.Table.{tabulate}
 use Rattle.game.specs.Game.{absent}
 use Rattle.game.proofs.Sound.{Sound}
@@ -27,66 +26,6 @@ pub record Climbing (was link : List ℕ) (x : ℕ) : Type 0 where
   pub before : (y : ℕ) → y < x → get_or link y 0 ≡ get_or was y 0
   pub stays : (y : ℕ) → x ≤ y → y < length was → get_or was y 0 ≡ y → get_or link y 0 ≡ y
   pub climbs : (y : ℕ) → x ≤ y → y < length was → get_or was y 0 ≢ y → get_or link y 0 ≡ get_or link (get_or was y 0) 0
-
-pub climbing-none : (was : List ℕ) → Climbing was was (length was)
-climbing-none was =
-    record {
-      size = refl;
-      inside = omega arith;
-      before = λ y h. refl;
-      stays = λ y h l e. e;
-      climbs = λ y h l d. absurd (omega arith);
-    }
-
-pub climbing-all : {was link : List ℕ} {x : ℕ} → Climbing was link x → x ≤ 0 → Tops was link
-climbing-all k h = record { stays = λ y l e. k.stays y (omega arith) l e; climbs = λ y l d. k.climbs y (omega arith) l d }
-
--- one rank more, which hangs on a
-module _ {was link : List ℕ} {x a : ℕ} (g : Hanging was) (k : Climbing was link x) (l : 0 < x) (e : a ≡ get_or link (x - 1) 0) where
-  lower : x - 1 < length was
-  lower = omega (arith, k.inside)
-
-  hangs : a ≡ get_or was (x - 1) 0
-  hangs = e ∙ k.before (x - 1) (omega arith)
-
-  pub climb-inside : a < length link
-  climb-inside = omega (arith, hangs, k.size, g.up (x - 1) lower)
-
-  pub climbing-more : Climbing was (set link (x - 1) (get_or link a 0)) (x - 1)
-  climbing-more =
-      record {
-        size = length-set link (x - 1) (get_or link a 0) ∙ k.size;
-        inside = omega arith;
-        before = λ y h. other y (omega arith) ∙ k.before y (omega arith);
-        stays = λ y h m q. by_cases (ℕ_discrete y (x - 1)) (λ (r : y ≡ x - 1). self-stays y r q) (λ (d : y ≢ x - 1). other y d ∙ k.stays y (omega arith) m q);
-        climbs = λ y h m q. by_cases (ℕ_discrete y (x - 1)) (λ (r : y ≡ x - 1). self-climbs y r q) (λ (d : y ≢ x - 1). later y (omega arith) m d q);
-      }
-    where
-      v : ℕ
-      v = x - 1
-
-      new : List ℕ
-      new = set link v (get_or link a 0)
-
-      other : (y : ℕ) → y ≢ v → get_or new y 0 ≡ get_or link y 0
-      other y d = get_or-set_other link v y (get_or link a 0) 0 d
-
-      mine : get_or new v 0 ≡ get_or link a 0
-      mine = get_or-set_same link v (get_or link a 0) 0 (omega (arith, lower, k.size))
-
-      self-stays : (y : ℕ) → y ≡ v → get_or was y 0 ≡ y → get_or new y 0 ≡ y
-      self-stays y r q =
-          let f : a ≡ v = hangs ∙ ap (λ (z : ℕ). get_or was z 0) (sym r) ∙ q ∙ r in
-          ap (λ (z : ℕ). get_or new z 0) r ∙ mine ∙ ap (λ (z : ℕ). get_or link z 0) f ∙ k.before v (omega arith) ∙ sym hangs ∙ f ∙ sym r
-
-      self-climbs : (y : ℕ) → y ≡ v → get_or was y 0 ≢ y → get_or new y 0 ≡ get_or new (get_or was y 0) 0
-      self-climbs y r q =
-          let f : a ≡ get_or was y 0 = hangs ∙ ap (λ (z : ℕ). get_or was z 0) (sym r) in
-          ap (λ (z : ℕ). get_or new z 0) r ∙ mine ∙ sym (other a (λ h. q (sym f ∙ h ∙ sym r))) ∙ ap (λ (z : ℕ). get_or new z 0) f
-
-      later : (y : ℕ) → v < y → y < length was → y ≢ v → get_or was y 0 ≢ y → get_or new y 0 ≡ get_or new (get_or was y 0) 0
-      later y h m d q =
-          other y d ∙ k.climbs y (omega arith) m q ∙ sym (other (get_or was y 0) (λ (f : get_or was y 0 ≡ v). omega (arith, f, g.up y m)))
 
 -- what each rank hangs on in a sound forest, and the table of tops
 module _ {p : List ℕ} (s : Sound p) (u : length p ≤ absent) (cuts : ℕ → Bool) (link : List ℕ) (e : length link ≡ length p)

@@ -7,7 +7,6 @@ ghost use Rattle.cut.specs.Steps.{Divisible, Loaded, Candidates, Trimmed, Listed
 use crate::classes::{CLASSES, class_of, file_children, floor_of};
 use cut::trim;
 use net::Net;
-use table::wide;
 
 // A list of up to so many children is scanned as a whole: to file them by class would take longer.
 const SHORT: usize = 32;
@@ -19,7 +18,7 @@ fn is_short(first: u32, next: &[u32]) -> bool
     let mut child = first;
     let mut count = 0;
     while child != Net::ABSENT && count < SHORT {
-        child = next[wide(child)];
+        child = next[child as usize];
         count += 1;
     }
     child == Net::ABSENT
@@ -111,22 +110,19 @@ pub fn cut(
     requires next_len { length next.old ≡ length parents.now }
     ensures { Cuts parents.now weights.now limit carried.new link.new }
 {
-    let mut x = 0;
-    while x < parents.len() {
+    for (x, &parent) in parents.iter().enumerate() {
         let kept = lighten(
             x as u32, weights[x], carried[x], limit, link[x], carried, link, next,
         );
         carried[x] = kept;
-        let parent = parents[x];
         if parent == Net::ABSENT {
             link[x] = x as u32;
         } else {
-            let above = wide(parent);
+            let above = parent as usize;
             next[x] = link[above];
             link[above] = x as u32;
             link[x] = parent;
             carried[above] += kept;
         }
-        x += 1;
     }
 }

@@ -4,17 +4,14 @@ ghost use Rattle.cut.specs.Steps.{Divisible, Hanging, Tops, Cuts, Grouped};
 
 use crate::cutting::cut;
 use net::Net;
-use table::wide;
 
 // Each vertex takes the top of what it hangs on, going down the ranks.
 fn find_tops(link: &mut [u32])
     requires { Hanging link.old }
     ensures { Tops link.old link.new }
 {
-    let mut x = link.len();
-    while x > 0 {
-        x -= 1;
-        let above = wide(link[x]);
+    for x in (0..link.len()).rev() {
+        let above = link[x] as usize;
         link[x] = link[above];
     }
 }
@@ -32,8 +29,8 @@ pub fn group(
     requires carried_len { (length carried.old ≡ length parents.now) × (length top.old ≡ length parents.now) × (length next.old ≡ length parents.now) }
     ensures { Grouped parents.now weights.now limit carried.new top.new }
 {
-    table::fill(top, Net::ABSENT);
-    table::fill(carried, 0);
+    top.fill(Net::ABSENT);
+    carried.fill(0);
     cut(parents, weights, limit, carried, top, next);
     find_tops(top);
 }

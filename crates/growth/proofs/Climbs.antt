@@ -265,6 +265,10 @@ module _ (p : List ℕ) {n y u w : ℕ} {E : List Edge} {ws was jump : List ℕ}
       rw (new-link p jump (inside c low) high-real (omega (arith, below c low, c.standing.long, new-length p jump)))
       (climb-link c low (sym read ∙ none))
 
+-- the table of jumps is as long as any that is as long as it
+pub upward-at : {m n : ℕ} {jump : List ℕ} → m ≡ n → Upward m jump → Upward n jump
+upward-at {jump = jump} = subst (λ (k : ℕ). Upward k jump)
+
 -- a jump to y, higher than where it starts, leaves the table of jumps upward
 pub upward-set : {n : ℕ} {jump : List ℕ} (w y : ℕ) → w < y → Upward n jump → Upward n (set jump w y)
 upward-set {n} {jump} w y low a = record { long = length-set jump w y ∙ a.long; up = up }

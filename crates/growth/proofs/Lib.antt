@@ -2,6 +2,7 @@ pub mod NewParents
 pub mod Moves
 pub mod Climbs
 pub mod Gather
+pub mod Flags
 pub mod ReadUpTo
 pub mod Raise
 pub mod Rooms

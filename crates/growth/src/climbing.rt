@@ -1,6 +1,6 @@
 // Climbs: from a vertex up to the root of its tree, which becomes a child of y. They are made one by one, or begun all, one step each, and
 // gone on with from where they stand.
-ghost use Rattle.std.specs.Prelude.{◌≡◌, cond, ◌<◌, ◌≤◌, length};
+ghost use Rattle.std.specs.Prelude.{◌<◌, ◌≤◌, length};
 ghost use Rattle.refusal.specs.Limits.{max_vertices};
 ghost use Rattle.growth.specs.Moves.{Moves};
 ghost use Rattle.growth.specs.Growth.{Upward, Connects, Steps, ConnectsAll, Begins};
@@ -51,32 +51,24 @@ pub fn climb(u: u32, y: u32, parents: &mut [u32], jump: &mut [u32], moved: u32) 
     lowest
 }
 
-// What is left at a place that held u.
-fn left(keep: bool, u: u32) -> u32
-    ensures { result ≡ cond keep u 0 }
-{
-    if keep { u } else { 0 }
-}
-
 // Climbs for y from each vertex of a list. Its place is kept, or cleared while it is at hand. Answers the lowest vertex that moved so far.
-pub fn climb_all(
+pub fn climb_all<const KEEP: bool>(
     y: u32,
-    keep: bool,
     vertices: &mut [u32],
     parents: &mut [u32],
     jump: &mut [u32],
     moved: u32,
 ) -> u32
     requires { (y < length parents.old) × (length parents.old ≤ max_vertices) × Upward (length parents.old) jump.old }
-    ensures { ConnectsAll y keep vertices.old parents.old jump.old vertices.new parents.new jump.new × Moves parents.old jump.old moved parents.new jump.new result }
+    ensures { ConnectsAll y KEEP vertices.old parents.old jump.old vertices.new parents.new jump.new × Moves parents.old jump.old moved parents.new jump.new result }
 {
     let mut lowest = moved;
-    let mut i = 0;
-    while i < vertices.len() {
-        let u = vertices[i];
-        vertices[i] = left(keep, u);
+    for place in vertices.iter_mut() {
+        let u = *place;
+        if !KEEP {
+            *place = 0;
+        }
         lowest = climb(u, y, parents, jump, lowest);
-        i += 1;
     }
     lowest
 }
@@ -94,13 +86,10 @@ pub fn step_all(
     ensures { Begins y bucket.old parents.old jump.old bucket.new parents.new jump.new × Moves parents.old jump.old moved parents.new jump.new result }
 {
     let mut lowest = moved;
-    let mut i = 0;
-    while i < bucket.len() {
-        let u = bucket[i];
-        let first = step(u, y, parents, jump, lowest);
-        bucket[i] = first.at;
+    for place in bucket.iter_mut() {
+        let first = step(*place, y, parents, jump, lowest);
+        *place = first.at;
         lowest = first.moved;
-        i += 1;
     }
     lowest
 }

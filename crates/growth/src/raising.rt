@@ -9,28 +9,25 @@ ghost use Rattle.growth.specs.Growth.{Upward, Gathers, Blank, Raises, Growable, 
 
 use crate::climbing;
 use net::Net;
-use table::wide;
 
 // Takes in y's bucket: climbs from each of its vertices. The first steps of all climbs are made before any goes on, because they lead far
 // apart and need not wait for each other. They go on from the bucket's own places, so where those are kept, each climb is made whole; and
 // where that is asked for, because most of what is filed are links, one or two to a bucket.
-fn gather(
+fn gather<const KEEP: bool, const WHOLE: bool>(
     y: u32,
-    keep: bool,
-    whole: bool,
     bucket: &mut [u32],
     parents: &mut [u32],
     jump: &mut [u32],
     moved: u32,
 ) -> u32
     requires { (y < length parents.old) × (length parents.old ≤ max_vertices) × Upward (length parents.old) jump.old }
-    ensures { Gathers y keep bucket.old parents.old jump.old bucket.new parents.new jump.new × Moves parents.old jump.old moved parents.new jump.new result }
+    ensures { Gathers y KEEP bucket.old parents.old jump.old bucket.new parents.new jump.new × Moves parents.old jump.old moved parents.new jump.new result }
 {
-    if keep | whole {
-        return climbing::climb_all(y, keep, bucket, parents, jump, moved);
+    if KEEP | WHOLE {
+        return climbing::climb_all::<KEEP>(y, bucket, parents, jump, moved);
     }
     let lowest = climbing::step_all(y, bucket, parents, jump, moved);
-    climbing::climb_all(y, keep, bucket, parents, jump, lowest)
+    climbing::climb_all::<KEEP>(y, bucket, parents, jump, lowest)
 }
 
 // What raising answers: where the last bucket ends, and the lowest vertex that moved.
@@ -43,33 +40,21 @@ struct Raising {
 // Raises the vertices upward, each with its bucket of lower ends, to the forest of the graph that is filed. A vertex has its new parent
 // when it has a jump; before that its entry is left from before. Up to where the last bucket ends the table of lower ends is kept or
 // cleared.
-fn raise(
+fn raise<const KEEP: bool, const WHOLE: bool>(
     parents: &mut [u32],
-    keep: bool,
-    whole: bool,
     ends: &[u32],
     jump: &mut [u32],
     lower: &mut [u32],
 ) -> Raising
     requires { Blank ends.now lower.old parents.old jump.old }
-    ensures { Raises keep ends.now lower.old parents.old jump.old lower.new parents.new jump.new result.end × Moves parents.old jump.old absent parents.new jump.new result.moved }
+    ensures { Raises KEEP ends.now lower.old parents.old jump.old lower.new parents.new jump.new result.end × Moves parents.old jump.old absent parents.new jump.new result.moved }
 {
     let mut moved = Net::ABSENT;
     let mut at = 0;
-    let mut y = 0;
-    while y < ends.len() {
-        let end = wide(ends[y]);
-        moved = gather(
-            y as u32,
-            keep,
-            whole,
-            &mut lower[at..end],
-            parents,
-            jump,
-            moved,
-        );
+    for (y, &end) in ends.iter().enumerate() {
+        let end = end as usize;
+        moved = gather::<KEEP, WHOLE>(y as u32, &mut lower[at..end], parents, jump, moved);
         at = end;
-        y += 1;
     }
     Raising { end: at, moved }
 }
@@ -79,9 +64,25 @@ pub fn clear(ends: &mut [u32], jump: &mut [u32], lower: &mut [u32], from: usize)
     requires { (from ≤ length lower.old) × (take from lower.old ≡ replicate from 0) }
     ensures { work_of ends.new jump.new lower.new ≡ cleared (work_of ends.old jump.old lower.old) }
 {
-    table::fill(ends, 0);
-    table::fill(jump, 0);
-    table::fill(&mut lower[from..], 0);
+    ends.fill(0);
+    jump.fill(0);
+    lower[from..].fill(0);
+}
+
+// Grows the forest as `grow` says. How climbs are made is a constant here, so that no loop tests it.
+fn grow_by<const WHOLE: bool>(
+    parents: &mut [u32],
+    ends: &mut [u32],
+    jump: &mut [u32],
+    lower: &mut [u32],
+) -> u32
+    requires { Growable ends.old lower.old parents.old jump.old }
+    ensures { Grows ends.old lower.old parents.old jump.old parents.new ends.new lower.new jump.new × Differ parents.old parents.new result }
+{
+    jump.fill(Net::ABSENT);
+    let raising = raise::<false, WHOLE>(parents, ends, jump, lower);
+    clear(ends, jump, lower, raising.end);
+    raising.moved
 }
 
 // Grows the forest of the graph that is filed, which has the links that the table of parents holds, and clears the work tables. Climbs are
@@ -96,10 +97,11 @@ pub fn grow(
     requires { Growable ends.old lower.old parents.old jump.old }
     ensures { Grows ends.old lower.old parents.old jump.old parents.new ends.new lower.new jump.new × Differ parents.old parents.new result }
 {
-    table::fill(jump, Net::ABSENT);
-    let raising = raise(parents, false, whole, ends, jump, lower);
-    clear(ends, jump, lower, raising.end);
-    raising.moved
+    if whole {
+        grow_by::<true>(parents, ends, jump, lower)
+    } else {
+        grow_by::<false>(parents, ends, jump, lower)
+    }
 }
 
 // Grows the forest in the same way, with what is filed kept for the next reader. The jumps are left as they stand.
@@ -107,6 +109,6 @@ pub fn grow_kept(parents: &mut [u32], ends: &[u32], jump: &mut [u32], lower: &mu
     requires { Growable ends.now lower.old parents.old jump.old }
     ensures { GrowsKept ends.now lower.old parents.old parents.new lower.new }
 {
-    table::fill(jump, Net::ABSENT);
-    raise(parents, true, true, ends, jump, lower);
+    jump.fill(Net::ABSENT);
+    raise::<true, true>(parents, ends, jump, lower);
 }

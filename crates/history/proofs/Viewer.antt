@@ -5,11 +5,11 @@ use mathlib.Core.Bool.{cond}
 use mathlib.Core.List.{List, [], ◌∷◌}
 use Prim.Native.Nat.{ℕ, zero, suc}
 use lib.ListN.{length}
+use Rattle.std.specs.Prelude.{Option}
 use Rattle.game.specs.Net.{Net}
 use Rattle.refusal.specs.Refusal.{unless}
 use Rattle.refusal.specs.Verdict.{accepted, judged, is_accepted}
 use Rattle.refusal.specs.Outcome.{decided}
-use Rattle.moved.specs.declared.Moved.{Moved}
 use Rattle.moved.specs.Followed.{reread, Followed}
 use Rattle.growth.specs.Work.{NetWithWork, with_work}
 use Rattle.start.specs.Start.{start_refusal, start_outcome}
@@ -32,8 +32,8 @@ reread-whole zero values was new e = refl
 reread-whole (suc k) values was new e = e
 
 -- a table reread from where it moved
-reread-moved : (k : ℕ) (m : Moved) (was new : NetWithWork) {old : List ℕ} → old ≡ was.net.parents
-    → ((n : Moved) → judged k m ≡ accepted n → Followed n was.net.parents (unless k was new).net.parents)
+reread-moved : (k : ℕ) (m : Option ℕ) (was new : NetWithWork) {old : List ℕ} → old ≡ was.net.parents
+    → ((n : Option ℕ) → judged k m ≡ accepted n → Followed n was.net.parents (unless k was new).net.parents)
     → shown (judged k m) old (unless k was new).net.parents ≡ (unless k was new).net.parents
 unfolding judged shown unless
 reread-moved zero m was new e f = ap (λ (old : List ℕ). reread m old new.net.parents) e ∙ (f m refl).whole

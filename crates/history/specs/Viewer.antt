@@ -5,9 +5,8 @@
 -- Document 02, Paper 2: "Our viewer rereads all links after each addition. Let adding and joining answer with the lowest rank whose parent
 -- is now another, or with 'none moved' if all are as before."
 -- Assumes nothing.
-use Rattle.std.specs.Prelude.{cond, List, [], ◌∷◌, ℕ}
+use Rattle.std.specs.Prelude.{cond, List, [], ◌∷◌, ℕ, Option}
 use Rattle.refusal.specs.Verdict.{Verdict, accepted, refused}
-use Rattle.moved.specs.declared.Moved.{Moved}
 use Rattle.moved.specs.Followed.{reread}
 use Rattle.growth.specs.Work.{with_work}
 use Rattle.add.specs.Add.{add_outcome}
@@ -15,7 +14,7 @@ use Rattle.join.specs.Join.{join_outcome}
 use Rattle.history.specs.World.{World, Call, start, add, join, save, read, relabel, divide, report, index, query, separate, update, Step, step}
 
 -- an old table beside the new one, by what an addition or a join said
-unfoldable pub shown : Verdict Moved → (old new : List ℕ) → List ℕ
+unfoldable pub shown : Verdict (Option ℕ) → (old new : List ℕ) → List ℕ
 shown (accepted m) old new = reread m old new
 shown (refused k) old new = old
 

@@ -1,12 +1,15 @@
 -- From exchanges to a list put in: the laws that the loops follow.
 -- Assumes nothing.
-use mathlib.Core.Path.{◌≡◌, refl, sym, ap, subst, ◌∙◌}
-use mathlib.Core.Logic.{◌≢◌, inr}
+use mathlib.Core.Path.{◌≡◌, refl, sym, ap, subst, subst₂, ◌∙◌}
+use mathlib.Core.Logic.{◌≢◌, inr, ⊎_elim}
 use mathlib.Core.List.{List, [], ◌∷◌, ◌++◌, append_assoc, append-nil}
-use Prim.Native.Nat.{ℕ, ◌+◌, ◌≤◌, ◌<◌, min}
+use Prim.Native.Nat.{ℕ, ◌+◌, ◌≤◌, ◌<◌, min, max}
 use native.Mathlib.Omega.{arith}
-use lib.ListN.{length, get_or, set, drop, length-set, drop_of_length-le}
-use Rattle.game.specs.Edge.{Edge, ◌─◌, ties, edges}
+use lib.ListN.{length, get_or, set, drop, length-set, length-drop, drop_of_length-le}
+use lib.Seq.{drop-drop}
+use Rattle.std.proofs.lemmas.Bool.{cases_lt}
+use Rattle.game.specs.Edge.{Edge, ◌─◌, Tie, without_rows, ties, edges}
+use Rattle.game.proofs.Edges.{edges-ties, rowless-drop}
 use Rattle.game.specs.Game.{absent, forest}
 use Rattle.game.specs.Tree.{links}
 use Rattle.game.proofs.Conn.{within-refl, within-trans, within_both}
@@ -121,7 +124,7 @@ trade-end {p} {e} {q} {low} {high} t done = record {
     spent a = subst (λ (x : ℕ). Alike (links q) (pending q (x ─ high))) is (record { there = a.back; back = a.there })
 
 -- an edge may be written either way round
-pub put-turned : {p : List ℕ} {a b : ℕ} {q : List ℕ} {steps : ℕ} → PutEdge p (b ─ a) q steps → PutEdge p (a ─ b) q steps
+put-turned : {p : List ℕ} {a b : ℕ} {q : List ℕ} {steps : ℕ} → PutEdge p (b ─ a) q steps → PutEdge p (a ─ b) q steps
 unfolding pending
 put-turned {p} {a} {b} x = record { same = x.same; sound = x.sound; quick = x.quick; alike = alike-trans x.alike turned }
   where
@@ -130,6 +133,32 @@ put-turned {p} {a} {b} x = record { same = x.same; sound = x.sound; quick = x.qu
       there = within_both (within-refl (links p)) (within-linked (same-linked (flip nil)));
       back = within_both (within-refl (links p)) (within-linked (same-linked (flip nil)));
     }
+
+-- so it may be put in by its lower and its upper end
+pub put-ordered : {p : List ℕ} {a b low high : ℕ} {q : List ℕ} {steps : ℕ} → low ≡ min a b → high ≡ max a b → PutEdge p (low ─ high) q steps → PutEdge p (a ─ b) q steps
+put-ordered {p} {a} {b} {low} {high} {q} {steps} e f x = ⊎_elim
+    (λ (h : a < b). subst₂ (λ (u v : ℕ). PutEdge p (u ─ v) q steps) (omega (arith, e, h)) (omega (arith, f, h)) x)
+    (λ (h : b ≤ a). put-turned (subst₂ (λ (u v : ℕ). PutEdge p (u ─ v) q steps) (omega (arith, e, h)) (omega (arith, f, h)) x))
+    (cases_lt a b)
+
+-- the first of the ties that are left of a list from number i on: its edge, and those behind it
+module _ (xs : List ℕ) (i : ℕ) {left rest : List Tie} {t : Tie} (at : left ≡ drop i (ties xs)) (first : left ≡ t ∷ rest) where
+  tie-first : drop i (ties xs) ≡ t ∷ rest
+  tie-first = sym at ∙ first
+
+  pub ties-on : rest ≡ drop (i + 1) (ties xs)
+  ties-on = sym (ap (drop 1) tie-first) ∙ drop-drop 1 i (ties xs)
+
+  pub edge-first : drop i (edges xs) ≡ t.edge ∷ drop (i + 1) (edges xs)
+  unfolding edges
+  edge-first = sym (rowless-drop i (ties xs)) ∙ ap without_rows tie-first ∙ ap (λ (es : List Edge). t.edge ∷ es) (ap without_rows ties-on ∙ rowless-drop (i + 1) (ties xs))
+
+  pub tie-inside : i < length (edges xs)
+  tie-inside = omega (arith, simp length-drop at (ap length edge-first))
+
+-- and where none is left, all edges are in
+pub edges-end : (xs : List ℕ) (i : ℕ) {left : List Tie} → left ≡ drop i (ties xs) → left ≡ [] → length (edges xs) ≤ i
+edges-end xs i at none = omega (arith, edges-ties xs, simp length-drop at (ap length (sym at ∙ none)))
 
 -- the list, with the loop at edge i
 pub put-none : {p xs : List ℕ} → Table p → first_fault (length p) (ties xs) ≡ 0 → PutUpTo p xs p 0

@@ -39,5 +39,5 @@ pub fn insert(
     }
     bucket::file_edges(parents, edge::from(edges, at), ends, lower);
     let grown = growth::grow(parents, true, ends, jump, lower);
-    table::smaller(progress.moved, grown)
+    progress.moved.min(grown)
 }

@@ -37,7 +37,7 @@ fn exchange(parents: &mut [u32], low: u32, high: u32, moved: u32) -> Pending
         return Pending {
             low: high,
             high,
-            moved: table::smaller(moved, low),
+            moved: moved.min(low),
         };
     }
     if parent <= high {
@@ -51,7 +51,7 @@ fn exchange(parents: &mut [u32], low: u32, high: u32, moved: u32) -> Pending
     Pending {
         low: high,
         high: parent,
-        moved: table::smaller(moved, low),
+        moved: moved.min(low),
     }
 }
 
@@ -77,17 +77,6 @@ fn put_up(parents: &mut [u32], from: u32, to: u32, moved: u32) -> Progress
     }
 }
 
-fn put_edge(parents: &mut [u32], a: u32, b: u32, moved: u32) -> Progress
-    requires { Table parents.old × (a < length parents.old) × (b < length parents.old) × (a ≡ b → ⊥) }
-    ensures { PutEdge parents.old (a ─ b) parents.new result.count × Lowers parents.old moved parents.new result.moved }
-{
-    if a < b {
-        put_up(parents, a, b, moved)
-    } else {
-        put_up(parents, b, a, moved)
-    }
-}
-
 // Puts in the edges of a list one by one, as long as fewer exchanges were made than the budget allows. Answers how many of them are in,
 // and the lowest vertex that moved.
 pub fn put_some(parents: &mut [u32], edges: &[u32], budget: usize) -> Progress
@@ -97,16 +86,13 @@ pub fn put_some(parents: &mut [u32], edges: &[u32], budget: usize) -> Progress
     let m = edge::count(edges);
     let mut moved = Net::ABSENT;
     let mut steps = 0;
-    let mut i = 0;
-    while i < m {
+    for (i, tie) in edge::ties(edges).enumerate() {
         if budget <= steps {
             return Progress { count: i, moved };
         }
-        let e = edge::at(edges, i);
-        let taken = put_edge(parents, e.a, e.b, moved);
+        let taken = put_up(parents, tie.lower(), tie.upper(), moved);
         steps += taken.count;
         moved = taken.moved;
-        i += 1;
     }
-    Progress { count: i, moved }
+    Progress { count: m, moved }
 }

@@ -5,11 +5,11 @@ use mathlib.Core.List.{List, ◌++◌, zip_with}
 use Prim.Native.Nat.{ℕ, ◌+◌}
 use native.Mathlib.Omega.{arith}
 use lib.ListN.{length}
+use Rattle.std.specs.Prelude.{Option}
 use Rattle.game.specs.Game.{forest}
 use Rattle.game.specs.Tree.{links}
 use Rattle.game.specs.Net.{net}
 use Rattle.game.proofs.Forest.{forest-length}
-use Rattle.moved.specs.declared.Moved.{Moved}
 use Rattle.moved.specs.Moved.{moved_from, moved}
 use Rattle.moved.specs.Steps.{moved_at, Differ}
 use Rattle.moved.proofs.Differ.{differ-moved}
@@ -32,6 +32,6 @@ module _ {p w q v e j l : List ℕ} (a : Joinable (with_work (net p w) (work_of 
     join-ends t s s' = ap₂ with_work (ap₂ net join-parents t) (r.clear ∙ same-room _ _ _ e j l s refl s')
 
     -- and what it answers is where the parents moved
-    pub join-moved : {k : ℕ} {m : Moved} → Differ p p'' k → m ≡ moved_at k → m ≡ moved (net p w) (joined (net p w) (net q v))
+    pub join-moved : {k : ℕ} {m : Option ℕ} → Differ p p'' k → m ≡ moved_at k → m ≡ moved (net p w) (joined (net p w) (net q v))
     unfolding moved joined
     join-moved d is = is ∙ differ-moved (ap length join-parents ∙ forest-length _ _) (omega (arith, a.net.few)) d ∙ ap (moved_from 0 p) join-parents

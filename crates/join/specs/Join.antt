@@ -3,12 +3,11 @@
 -- (document 02, Paper 2).
 -- Assumes nothing.
 use mathlib.Core.List.{◌++◌, zip_with}
-use Rattle.std.specs.Prelude.{◌+◌, length}
+use Rattle.std.specs.Prelude.{ℕ, ◌+◌, length, Option}
 use Rattle.game.specs.Game.{forest}
 use Rattle.game.specs.Tree.{links}
 use Rattle.game.specs.Net.{Net}
 use Rattle.refusal.specs.Outcome.{Outcome, decided}
-use Rattle.moved.specs.declared.Moved.{Moved}
 use Rattle.moved.specs.Moved.{moved}
 use Rattle.join_refusal.specs.Refused.{join_refusal}
 use Rattle.growth.specs.Work.{NetWithWork, cleared}
@@ -20,7 +19,7 @@ joined one other = record {
   weights = zip_with ◌+◌ one.weights other.weights;
 }
 
-unfoldable pub join_outcome : NetWithWork → Net → Outcome Moved NetWithWork
+unfoldable pub join_outcome : NetWithWork → Net → Outcome (Option ℕ) NetWithWork
 join_outcome g other =
     let new : Net = joined g.net other in
     decided (join_refusal g other) (moved g.net new) g (record { net = new; work = cleared g.work })

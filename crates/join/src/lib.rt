@@ -4,12 +4,12 @@
 ghost use Rattle.std.specs.Prelude.{◌≡◌};
 ghost use Rattle.game.specs.Net.{net};
 ghost use Rattle.growth.specs.Work.{with_work, work_of};
-ghost use Rattle.moved.specs.Answer.{verdict};
+ghost use Rattle.refusal.specs.Numbers.{verdict};
 ghost use Rattle.refusal.specs.Outcome.{ended};
 ghost use Rattle.join.specs.Join.{join_outcome};
 
 use join_refusal::join_refusal;
-use moved::GrowthAnswer;
+use refusal::Refusal;
 
 // Joins a second net into a first: the parents become those of the elimination game on the links of both, and the weights are
 // summed. The work tables take n, n and 2 n entries; they end as zeros. Answers where the first net's forest moved.
@@ -21,12 +21,12 @@ pub fn join(
     ends: &mut [u32],
     jump: &mut [u32],
     lower: &mut [u32],
-) -> GrowthAnswer
+) -> Result<Option<u32>, Refusal>
     ensures { ended (verdict result) (with_work (net parents.new weights.new) (work_of ends.new jump.new lower.new))
         ≡ join_outcome (with_work (net parents.old weights.old) (work_of ends.old jump.old lower.old))
         (net other_parents.now other_weights.now) }
 {
-    let code = join_refusal(
+    join_refusal(
         parents,
         weights,
         other_parents,
@@ -34,12 +34,9 @@ pub fn join(
         ends,
         jump,
         lower,
-    );
-    if code != 0 {
-        return GrowthAnswer::Refused(code);
-    }
+    )?;
     table::add_all(weights, other_weights);
     bucket::file_links(parents, other_parents, ends, lower);
     let lowest = growth::grow(parents, true, ends, jump, lower);
-    moved::accepted(lowest)
+    Ok(moved::moved_at(lowest))
 }

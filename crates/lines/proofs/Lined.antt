@@ -2,12 +2,11 @@
 -- Assumes nothing.
 use mathlib.Core.Path.{◌≡◌, sym, subst}
 use mathlib.Core.List.{List}
-use Prim.Native.Nat.{ℕ, ◌+◌, ◌*◌, ◌≤◌, ◌<◌}
+use Prim.Native.Nat.{ℕ, ◌+◌, ◌*◌, ◌≤◌}
 use native.Mathlib.Numerals.{add-one}
 use native.Mathlib.Omega.{arith}
-use lib.ListN.{length}
 use Rattle.decimal.specs.Put.{PutText}
-use Rattle.decimal.proofs.Runs.{put-length, put-none, put_on}
+use Rattle.decimal.proofs.Runs.{put-none, put_on}
 use Rattle.refusal.specs.Verdict.{Verdict, accepted, refused}
 use Rattle.cost.specs.declared.Totals.{Totals}
 use Rattle.lines.specs.FieldSteps.{line_room}
@@ -24,17 +23,10 @@ unfolding lines_below
 lined-none line was = record { short = omega arith; put = put-none was 0 (omega arith) }
 
 module _ {line : ℕ → List ℕ} {was mid : List ℕ} {x between : ℕ} (l : Lined line was mid x between) where
-  pub line-room : {n : ℕ} → x < n → line_room * n ≤ length was → between + line_room ≤ length mid
-  line-room h room = omega (arith, l.short, put-length l.put)
-
   -- one more
   pub lined-next : {now : List ℕ} {end : ℕ} → PutText mid between (line x) now end × (end ≤ between + line_room) → Lined line was now (x + 1) end
   unfolding lines_below
   lined-next q = record { short = omega (arith, l.short, q.1); put = rw add-one (put_on l.put q.0) }
-
-  -- all
-  pub lined-all : (n : ℕ) → x ≤ n → n ≤ x → PutText was 0 (lines_below line n) mid between × (between ≤ line_room * n)
-  lined-all n h k = let e : x ≡ n = omega arith in (subst (λ (y : ℕ). PutText was 0 (lines_below line y) mid between) e l.put, omega (arith, l.short))
 
 -- what is printed of a report's answer
 module _ {q : Verdict Totals} (lines : List ℕ) {was now : List ℕ} {end : ℕ} where

@@ -8,7 +8,6 @@ ghost use Rattle.lines.specs.FieldSteps.{entry_room, figure_room, line_room};
 
 use decimal::{put_byte, put_number, put_text};
 use net::Net;
-use table::amount;
 
 // The room of a number of 32 bits, ten digits at most, and of one of 64, twenty; with the byte behind it.
 pub const ENTRY: usize = 11;
@@ -32,7 +31,7 @@ pub fn put_entry(text: &mut [u8], at: usize, x: u32, after: u8) -> usize
     requires { at + entry_room ≤ length text.old }
     ensures { PutText text.old at (decimal x ++ (after ∷ [])) text.new result × (result ≤ at + entry_room) }
 {
-    put_field(text, at, amount(x), after)
+    put_field(text, at, u64::from(x), after)
 }
 
 // And for one of 64 bits, which takes twenty.

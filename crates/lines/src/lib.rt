@@ -1,4 +1,4 @@
-// The text of a run, from a report's answer and its tables, or from the number of a refusal.
+// The text of a run, from a report's answer and its tables, or from a refusal.
 #![tactic(auto)]
 
 mod fields;

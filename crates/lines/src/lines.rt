@@ -2,14 +2,15 @@
 // after what it wrote.
 ghost use Rattle.std.specs.Prelude.{◌+◌, ◌*◌, ◌≤◌, length};
 ghost use Rattle.decimal.specs.Put.{PutText};
-ghost use Rattle.cost.specs.Answer.{verdict};
+ghost use Rattle.refusal.specs.Numbers.{number_of, verdict};
 ghost use Rattle.lines.specs.FieldSteps.{line_room};
 ghost use Rattle.lines.specs.Lines.{refused_text, rank_text, lines_below, share_text, totals_text};
 ghost use Rattle.lines.specs.LineSteps.{Columns, answer_text, share_room, totals_room};
 
 use crate::fields::{put_entry, put_figure, put_line};
-use cost::{ReportAnswer, Totals};
+use cost::Totals;
 use decimal::put_text;
+use refusal::Refusal;
 use share::Share;
 
 // The lines of all ranks.
@@ -32,13 +33,12 @@ fn put_lines(
         × (result ≤ line_room * length order.now) }
 {
     let mut end = 0;
-    let mut x = 0;
-    while x < order.len() {
+    for (x, &vertex) in order.iter().enumerate() {
         end = put_line(
             text,
             end,
             x as u32,
-            order[x],
+            vertex,
             parents[x],
             weights[x],
             reach[x],
@@ -46,7 +46,6 @@ fn put_lines(
             block[x],
             block_count[x],
         );
-        x += 1;
     }
     end
 }
@@ -74,17 +73,17 @@ fn put_totals(text: &mut [u8], at: usize, totals: Totals) -> usize
 }
 
 // What a refused run prints.
-pub fn put_refused(text: &mut [u8], code: u32) -> usize
+pub fn put_refused(text: &mut [u8], refusal: Refusal) -> usize
     requires { totals_room ≤ length text.old }
-    ensures { PutText text.old 0 (refused_text code) text.new result }
+    ensures { PutText text.old 0 (refused_text (number_of refusal)) text.new result }
 {
     let end = put_text(text, 0, b"refused ");
-    put_entry(text, end, code, b'\n')
+    put_entry(text, end, refusal.number(), b'\n')
 }
 
 // What a run prints of a report's answer and of the tables that it left.
 pub fn put_answer(
-    answer: ReportAnswer,
+    answer: Result<Totals, Refusal>,
     order: &[u32],
     parents: &[u32],
     weights: &[u32],
@@ -103,7 +102,7 @@ pub fn put_answer(
         text.new result }
 {
     match answer {
-        ReportAnswer::Accepted(totals) => {
+        Ok(totals) => {
             let end = put_lines(
                 order,
                 parents,
@@ -116,6 +115,6 @@ pub fn put_answer(
             );
             put_totals(text, end, totals)
         }
-        ReportAnswer::Refused(code) => put_refused(text, code),
+        Err(refusal) => put_refused(text, refusal),
     }
 }

@@ -11,38 +11,38 @@ use native.Mathlib.Omega.{arith}
 use lib.ListN.{length, get_or}
 use lib.Seq.{ext_get_or}
 use borrow.Author.Tests.{eq-eqb, ne_eqb}
+use Rattle.std.specs.Prelude.{Some, None}
 use Rattle.game.specs.Game.{absent}
-use Rattle.moved.specs.declared.Moved.TheVariants.{Lowest, Nothing}
 use Rattle.moved.specs.Moved.{moved_from}
 use Rattle.moved.specs.Steps.{moved_at, Differ}
 
 -- a table beside itself
-still-from : (i : ℕ) (was : List ℕ) → moved_from i was was ≡ Nothing
+still-from : (i : ℕ) (was : List ℕ) → moved_from i was was ≡ None
 unfolding moved_from
 still-from i [] = refl
-still-from i (p ∷ was) = ap (λ (b : Bool). cond b (moved_from (suc i) was was) (Lowest i)) (eq-eqb p p refl) ∙ still-from (suc i) was
+still-from i (p ∷ was) = ap (λ (b : Bool). cond b (moved_from (suc i) was was) (Some i)) (eq-eqb p p refl) ∙ still-from (suc i) was
 
 -- two tables that are the same below r, and differ there
 first-from : (i r : ℕ) (was is : List ℕ) → length is ≡ length was → r < length was → ((z : ℕ) → z < r → get_or is z absent ≡ get_or was z absent)
-    → get_or is r absent ≢ get_or was r absent → moved_from i was is ≡ Lowest (i + r)
+    → get_or is r absent ≢ get_or was r absent → moved_from i was is ≡ Some (i + r)
 unfolding moved_from
 first-from i r [] is long h same d = absurd (omega arith)
 first-from i r (p ∷ was) [] long h same d = absurd (omega arith)
 first-from i zero (p ∷ was) (q ∷ is) long h same d =
-    ap (λ (b : Bool). cond b (moved_from (suc i) was is) (Lowest i)) (ne_eqb p q (λ e. d (sym e))) ∙ ap Lowest (omega arith)
+    ap (λ (b : Bool). cond b (moved_from (suc i) was is) (Some i)) (ne_eqb p q (λ e. d (sym e))) ∙ ap Some (omega arith)
 first-from i (suc r) (p ∷ was) (q ∷ is) long h same d =
-    ap (λ (b : Bool). cond b (moved_from (suc i) was is) (Lowest i)) (eq-eqb p q (sym (same 0 (zero-lt-suc r))))
+    ap (λ (b : Bool). cond b (moved_from (suc i) was is) (Some i)) (eq-eqb p q (sym (same 0 (zero-lt-suc r))))
     ∙ first-from (suc i) r was is (omega arith) (le_of_suc-le-suc h) (λ z l. same (suc z) (suc-le-suc l)) d
-    ∙ ap Lowest (omega arith)
+    ∙ ap Some (omega arith)
 
 -- a rank that is none, and one that is
-pub moved_none : (r : ℕ) → r ≡ absent → moved_at r ≡ Nothing
+pub moved_none : (r : ℕ) → r ≡ absent → moved_at r ≡ None
 unfolding moved_at
-moved_none r e = ap (λ (b : Bool). cond b Nothing (Lowest r)) (eq-eqb r absent e)
+moved_none r e = ap (λ (b : Bool). cond b None (Some r)) (eq-eqb r absent e)
 
-pub moved-some : (r : ℕ) → r ≢ absent → moved_at r ≡ Lowest r
+pub moved-some : (r : ℕ) → r ≢ absent → moved_at r ≡ Some r
 unfolding moved_at
-moved-some r d = ap (λ (b : Bool). cond b Nothing (Lowest r)) (ne_eqb r absent d)
+moved-some r d = ap (λ (b : Bool). cond b None (Some r)) (ne_eqb r absent d)
 
 module _ {was is : List ℕ} (long : length is ≡ length was) (few : length was ≤ absent) where
   pub differ-still : {r : ℕ} → Differ was is r → r ≡ absent → is ≡ was
@@ -52,7 +52,7 @@ module _ {was is : List ℕ} (long : length is ≡ length was) (few : length was
   pub differ-moved : {r : ℕ} → Differ was is r → moved_at r ≡ moved_from 0 was is
   differ-moved {r} d = ⊎_elim
       (λ e. moved_none r e ∙ sym (still-from 0 was) ∙ ap (moved_from 0 was) (sym (differ-still d e)))
-      (λ h. moved-some r (omega (arith, h.0)) ∙ sym (first-from 0 r was is long h.0 d.same h.1 ∙ ap Lowest (zero-add r)))
+      (λ h. moved-some r (omega (arith, h.0)) ∙ sym (first-from 0 r was is long h.0 d.same h.1 ∙ ap Some (zero-add r)))
       d.there
 
 -- there is always such a rank

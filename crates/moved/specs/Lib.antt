@@ -1,5 +1,4 @@
 -- Where a forest moved.
-pub mod Answer
 pub mod Example
 pub mod Followed
 pub mod Moved

@@ -1,13 +1,11 @@
 -- What the functions that write parents promise each other of where they moved. No public contract cites this.
 -- Assumes nothing.
-use Rattle.std.specs.Prelude.{◌≡◌, ◌⊎◌, cond, List, ℕ, ◌≤◌, ◌<◌, min, eqb, length, get_or}
+use Rattle.std.specs.Prelude.{◌≡◌, ◌⊎◌, cond, List, ℕ, ◌≤◌, ◌<◌, min, eqb, length, get_or, Option, Some, None}
 use Rattle.game.specs.Game.{absent}
-use Rattle.moved.specs.declared.Moved.{Moved}
-use Rattle.moved.specs.declared.Moved.TheVariants.{Lowest, Nothing}
 
 -- the answer by the lowest rank that moved
-unfoldable pub moved_at : ℕ → Moved
-moved_at r = cond (eqb r absent) Nothing (Lowest r)
+unfoldable pub moved_at : ℕ → Option ℕ
+moved_at r = cond (eqb r absent) None (Some r)
 
 -- the lowest vertex that moved, of those so far and w, whose parent was old and is y
 unfoldable pub moved_with : (moved w old y : ℕ) → ℕ

@@ -1,28 +1,13 @@
-// Where a forest moved (document 02, Paper 2): it is seen where a vertex is linked to its parent, and is what adding and joining answer.
-// While they work, it is the number of a vertex, absent where none has moved.
+// Where a forest moved (document 02, Paper 2): it is seen where a vertex is linked to its parent, and is what adding and joining answer,
+// the lowest vertex whose parent is another than before. While they work, it is the number of a vertex, absent where none has moved, so
+// that the lowest of two is their minimum.
 #![tactic(auto)]
 
-ghost use Rattle.std.specs.Prelude.{◌≡◌, ◌<◌, min, max, length, get_or, set};
-ghost use Rattle.refusal.specs.Verdict.{accepted as accepted_with};
+ghost use Rattle.std.specs.Prelude.{◌≡◌, ◌<◌, length, get_or, set};
 ghost use Rattle.moved.specs.Moved.{moved_rank};
-ghost use Rattle.moved.specs.Answer.{verdict};
 ghost use Rattle.moved.specs.Steps.{moved_at, moved_with};
 
 use net::Net;
-
-// The lowest vertex whose parent is another than before, or nothing: all parents are as before.
-#[derive(Drop)]
-pub enum Moved {
-    Lowest(u32),
-    Nothing,
-}
-
-// What adding and joining answer: where the forest moved, or the number for which the call was refused.
-#[derive(Drop)]
-pub enum GrowthAnswer {
-    Accepted(Moved),
-    Refused(u32),
-}
 
 // The lowest vertex that moved, of those so far and w, which is about to get the parent y. Where a lower one has moved, the old parent of w
 // need not be read, and so need not be waited for.
@@ -37,7 +22,7 @@ fn lowest_with(w: u32, y: u32, parents: &[u32], moved: u32) -> u32
     if parents[at] == y {
         return moved;
     }
-    table::smaller(moved, w)
+    moved.min(w)
 }
 
 // Makes y the parent of w, which has the parent from before still. Answers the lowest vertex that moved, of those so far and w.
@@ -51,30 +36,19 @@ pub fn link(w: u32, y: u32, parents: &mut [u32], moved: u32) -> u32
     lowest
 }
 
-// The answer by the lowest vertex that moved.
-pub fn moved_at(rank: u32) -> Moved
-    ensures { result ≡ moved_at rank }
+// What a call answers by the lowest vertex that moved: nothing where all parents are as before.
+pub fn moved_at(lowest: u32) -> Option<u32>
+    ensures { result ≡ moved_at lowest }
 {
-    if rank == Net::ABSENT {
-        return Moved::Nothing;
+    if lowest == Net::ABSENT {
+        return None;
     }
-    Moved::Lowest(rank)
-}
-
-// The answer of an accepted call.
-pub fn accepted(lowest: u32) -> GrowthAnswer
-    ensures { verdict result ≡ accepted_with (moved_at lowest) }
-{
-    let moved = moved_at(lowest);
-    GrowthAnswer::Accepted(moved)
+    Some(lowest)
 }
 
 // The answer as one number: absent, where none moved.
-pub fn moved_rank(moved: Moved) -> u32
+pub fn moved_rank(moved: Option<u32>) -> u32
     ensures { result ≡ moved_rank moved }
 {
-    match moved {
-        Moved::Lowest(rank) => rank,
-        Moved::Nothing => Net::ABSENT,
-    }
+    moved.unwrap_or(Net::ABSENT)
 }

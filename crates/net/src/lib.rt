@@ -9,8 +9,6 @@ ghost use Rattle.game.specs.Tree.{sound, sound_parent};
 ghost use Rattle.refusal.specs.Limits.{max_vertices, max_total};
 ghost use Rattle.net.specs.Damage.{damaged_by};
 
-use table::{amount, narrow};
-
 // What a call knows of a net whose tables it has read: its total weight.
 #[derive(Clone, Copy)]
 pub struct Net {
@@ -64,12 +62,10 @@ pub fn is_sound(parents: &[u32]) -> bool
     requires { length parents.now ≤ max_vertices }
     ensures { result ≡ sound parents.now }
 {
-    let n = narrow(parents.len());
+    let n = parents.len() as u32;
     let mut sound = true;
-    let mut i = 0;
-    while i < parents.len() {
-        sound = sound & is_parent(n, narrow(i), parents[i]);
-        i += 1;
+    for (i, &p) in parents.iter().enumerate() {
+        sound &= is_parent(n, i as u32, p);
     }
     sound
 }
@@ -80,10 +76,8 @@ pub fn total(weights: &[u32]) -> u64
     ensures { result ≡ sum weights.now }
 {
     let mut sum: u64 = 0;
-    let mut i = 0;
-    while i < weights.len() {
-        sum += amount(weights[i]);
-        i += 1;
+    for &weight in weights {
+        sum += u64::from(weight);
     }
     sum
 }

@@ -4,13 +4,13 @@
 use mathlib.Core.Path.{◌≡◌, refl}
 use mathlib.Core.Logic.{by_cases}
 use mathlib.Core.Bool.{Bool, true, false, ◌||◌, cond}
-use mathlib.Core.List.{List, [], ◌∷◌}
+use mathlib.Core.List.{List, [], ◌∷◌, ◌++◌}
 use Prim.Native.Nat.{ℕ, zero, suc, ◌≤◌, ◌<◌}
 use native.Mathlib.Nat.{le_of_suc-le-suc, not-suc-le-zero}
 use native.Mathlib.Decide.{ℕ_discrete}
 use native.Mathlib.Omega.{arith}
 use lib.Dec.{eqb, leb}
-use lib.ListN.{length, get_or, drop}
+use lib.ListN.{length, get_or}
 use borrow.Author.Tests.{leb-false, le-leb, lt-leb, eqb-false, eq-eqb, ne_eqb}
 use Rattle.game.specs.Table.{member}
 use Rattle.game.proofs.Bools.{or_left, or_right, or-neither, neither-or}
@@ -49,12 +49,10 @@ good-entry n [] e i h = absurd (not-suc-le-zero h)
 good-entry n (v ∷ vs) e zero h = (good-head n v vs e).0
 good-entry n (v ∷ vs) e (suc i) h = good-entry n vs (good-tail n v vs e) i (le_of_suc-le-suc h)
 
--- a bad entry of the rest is a bad entry of the whole
-pub bad-drop : (n : ℕ) (vs : List ℕ) (i : ℕ) → bad_entry n (drop i vs) ≡ true → bad_entry n vs ≡ true
-bad-drop n [] zero e = e
-bad-drop n [] (suc i) e = e
-bad-drop n (v ∷ vs) zero e = e
-bad-drop n (v ∷ vs) (suc i) e = bad-tail n v vs (bad-drop n vs i e)
+-- a bad entry of the end of a list is a bad entry of the whole
+pub bad-append : (n : ℕ) (us vs : List ℕ) → bad_entry n vs ≡ true → bad_entry n (us ++ vs) ≡ true
+bad-append n [] vs e = e
+bad-append n (u ∷ us) vs e = bad-tail n u (us ++ vs) (bad-append n us vs e)
 
 -- a number that is not in a list differs from its head and is not in its tail
 not-head : (v w : ℕ) (ws : List ℕ) → member v (w ∷ ws) ≡ false → v ≡ w → ⊥

@@ -4,7 +4,6 @@ use mathlib.Core.Path.{◌≡◌, sym, ap, ◌∙◌}
 use mathlib.Core.Bool.{false}
 use mathlib.Core.List.{List}
 use Prim.Native.Nat.{ℕ, ◌+◌, ◌≤◌, ◌<◌}
-use native.Mathlib.Nat.{not-suc-le-zero}
 use native.Mathlib.Omega.{arith}
 use lib.ListN.{length, get_or, set, length-set}
 use lib.Seq.{get_or-set_same, get_or-set_other}
@@ -15,13 +14,8 @@ use Rattle.order.proofs.Rank.{rank_below, order-rank, order_below, order-injecti
 
 -- where the inverse stands: the vertices of the ranks below r have theirs
 pub record Inverted (order table : List ℕ) (r : ℕ) : Type 0 where
-  pub within : r ≤ length order
   pub size : length table ≡ length order
   pub rank : (k : ℕ) → k < r → get_or table (get_or order k 0) 0 ≡ k
-
-pub inverted-none : (order table : List ℕ) → length table ≡ length order → Inverted order table 0
-inverted-none order table e =
-    record { within = omega arith; size = e; rank = λ k h. absurd (not-suc-le-zero h) }
 
 module _ {order table : List ℕ} {r : ℕ} (good : bad_order order ≡ false) (f : Inverted order table r) where
   pub inverted-room : {v : ℕ} → r < length order → v ≡ get_or order r 0 → v < length table
@@ -30,7 +24,6 @@ module _ {order table : List ℕ} {r : ℕ} (good : bad_order order ≡ false) (
   pub inverted-more : {v : ℕ} → r < length order → v ≡ get_or order r 0 → Inverted order (set table v r) (r + 1)
   inverted-more {v} h e =
       record {
-        within = omega arith;
         size = length-set table v r ∙ f.size;
         rank = below_more (λ (k : ℕ). get_or (set table v r) (get_or order k 0) 0 ≡ k) r before here;
       }

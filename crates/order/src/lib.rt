@@ -6,12 +6,11 @@ ghost use Rattle.refusal.specs.Limits.{max_vertices};
 ghost use Rattle.order.specs.Order.{bad_order, inverse_of};
 ghost use Rattle.order.specs.VertexSet.{set_words, bit_at, set_bit};
 
-use table::wide;
-
 // A set of vertices has a bit for each number, 32 to a word.
 const WORDS: usize = 32_768;
 
 // Whether a vertex is in a set.
+#[tactic(auto, unfolding(crate::specs::VertexSet::bit_at))]
 fn contains(set: &[u32], v: usize) -> bool
     requires { (length set.now ≡ set_words) × (v < max_vertices) }
     ensures { result ≡ eqb (bit_at set.now v) 1 }
@@ -36,10 +35,8 @@ pub fn bad_order(order: &[u32]) -> bool
 {
     let n = order.len();
     let mut later = [0u32; WORDS];
-    let mut i = n;
-    while 0 < i {
-        i -= 1;
-        let v = wide(order[i]);
+    for &vertex in order.iter().rev() {
+        let v = vertex as usize;
         if n <= v {
             return true;
         }
@@ -56,9 +53,7 @@ pub fn invert(order: &[u32], inverse: &mut [u32])
     requires { (length order.now ≤ max_vertices) × (bad_order order.now ≡ false) × (length inverse.old ≡ length order.now) }
     ensures { inverse.new ≡ inverse_of order.now }
 {
-    let mut r = 0;
-    while r < order.len() {
-        inverse[wide(order[r])] = r as u32;
-        r += 1;
+    for (rank, &vertex) in order.iter().enumerate() {
+        inverse[vertex as usize] = rank as u32;
     }
 }

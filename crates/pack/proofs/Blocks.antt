@@ -6,10 +6,10 @@ use mathlib.Core.Bool.{Bool}
 use mathlib.Core.List.{List}
 use Prim.Native.Nat.{ℕ, suc, ◌+◌, ◌≤◌, ◌<◌}
 use native.Mathlib.Numerals.{add-one}
-use native.Mathlib.Decide.{ℕ_discrete, dec_lt}
+use native.Mathlib.Decide.{ℕ_discrete}
 use native.Mathlib.Omega.{arith}
 use lib.Dec.{eqb}
-use lib.ListN.{length, get_or, set, replicate, length-set, length-replicate}
+use lib.ListN.{length, get_or, set, replicate, length-set}
 use lib.Seq.{get_or-set_same, get_or-set_other}
 use borrow.Author.Tests.{eq-eqb, ne_eqb}
 use Rattle.game.specs.Table.{tabulate, sum}
@@ -47,9 +47,6 @@ module _ {tops carried block₀ loads₀ : List ℕ} (g : Packable tops carried 
   module _ {x : ℕ} {block loads : List ℕ} (t : Packs tops carried (length loads₀) x block loads) where
     pub packs-length : length loads ≡ length loads₀
     packs-length = ap length t.table ∙ loads-length (top_in tops) (entry carried) (length loads₀) x
-
-    pub packs-some : 0 < length loads
-    packs-some = omega (arith, packs-length, g.some)
 
     pub packs-few : length loads ≤ max_blocks
     packs-few = omega (arith, packs-length, g.few)
@@ -128,33 +125,6 @@ pub record Spread (tops was block : List ℕ) (x : ℕ) : Type 0 where
   pub given : (y : ℕ) → y < x → get_or block y 0 ≡ get_or was (get_or tops y 0) 0
   pub kept : (y : ℕ) → x ≤ y → get_or block y 0 ≡ get_or was y 0
 
-pub spread_none : (tops was : List ℕ) → length was ≡ length tops → Spread tops was was 0
-spread_none tops was e = record { within = omega arith; sized = e; given = λ y h. absurd (omega arith); kept = λ y h. refl }
-
-module _ {tops was block : List ℕ} {x a : ℕ} (g : Topped tops) (t : Spread tops was block x) (l : x < length tops) (e : a ≡ get_or tops x 0) where
-  pub spread-inside : a < length block
-  spread-inside = omega (arith, e, t.sized, g.inside x l)
-
-  -- the top has its block still
-  top-block : get_or block a 0 ≡ get_or was a 0
-  top-block =
-      by_cases (dec_lt a x)
-      (λ h. t.given a h ∙ ap (λ (z : ℕ). get_or was z 0) (ap (λ (z : ℕ). get_or tops z 0) e ∙ g.own x l ∙ sym e))
-      (λ (h : a < x → ⊥). t.kept a (omega arith))
-
-  pub spread-more : Spread tops was (set block x (get_or block a 0)) (x + 1)
-  spread-more =
-      record {
-        within = omega arith;
-        sized = length-set block x (get_or block a 0) ∙ t.sized;
-        given =
-            λ y h.
-            by_cases (ℕ_discrete y x)
-            (λ (r : y ≡ x). rw (r, get_or-set_same block x (get_or block a 0) 0 (omega (arith, t.sized))) (top-block ∙ ap (λ (z : ℕ). get_or was z 0) e))
-            (λ (r : y ≢ x). get_or-set_other block x y (get_or block a 0) 0 r ∙ t.given y (omega arith));
-        kept = λ y h. get_or-set_other block x y (get_or block a 0) 0 (λ (r : y ≡ x). omega arith) ∙ t.kept y (omega arith);
-      }
-
 -- packed, and given to each vertex
 pub spread-assigned : {tops carried block block' loads : List ℕ} → Topped tops → Packed tops carried block loads → length block' ≡ length tops
     → ((x : ℕ) → x < length tops → get_or block' x 0 ≡ get_or block (get_or tops x 0) 0) → Assigned tops carried block' loads
@@ -165,12 +135,3 @@ spread-assigned {tops} {carried} {block} {block'} {loads} g a e b =
           tabulate-unique (length tops) (λ y. block_of (top_in tops) (entry carried) (length loads) (get_or tops y 0)) block' 0 e
           (λ x l. b x l ∙ a.each (get_or tops x 0) (g.inside x l) (g.own x l));
     }
-
--- the loads are cleared
-pub packable-cleared : {tops carried block loads loads' : List ℕ} → Packable tops carried block loads → loads' ≡ replicate (length loads) 0
-    → Packable tops carried block loads' × (loads' ≡ replicate (length loads') 0)
-packable-cleared {loads = loads} {loads' = loads'} g e =
-    let n : length loads' ≡ length loads = ap length e ∙ length-replicate (length loads) 0 in (
-      record { told = g.told; sized = g.sized; some = omega (arith, g.some); few = omega (arith, g.few); small = g.small },
-      e ∙ ap (λ (k : ℕ). replicate k 0) (sym n),
-    )

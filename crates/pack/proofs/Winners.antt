@@ -3,7 +3,7 @@
 use mathlib.Core.Path.{◌≡◌, sym, ap, subst, ◌∙◌}
 use mathlib.Core.Logic.{◌≢◌, inl, inr, ⊎_elim, by_cases}
 use mathlib.Core.List.{List}
-use Prim.Native.Nat.{ℕ, zero, suc, ◌+◌, ◌*◌, ◌-◌, ◌/◌, ◌%◌, ◌≤◌, ◌<◌}
+use Prim.Native.Nat.{ℕ, zero, suc, min, ◌+◌, ◌*◌, ◌-◌, ◌/◌, ◌%◌, ◌≤◌, ◌<◌}
 use native.Mathlib.Nat.{le_refl}
 use native.Mathlib.Decide.{ℕ_discrete, dec_lt}
 use native.Mathlib.Omega.{arith}
@@ -13,6 +13,15 @@ use Rattle.refusal.specs.DivisionLimits.{max_blocks}
 use Rattle.pack.specs.Lightest.{lightest}
 use Rattle.pack.specs.TournamentSteps.{key, Lower, Tournament, Outdated}
 use Rattle.pack.proofs.Lightest.{lightest-found}
+
+-- the smaller of two numbers is the lower
+pub lower-min : {a b r : ℕ} → r ≡ min a b → Lower a b r
+lower-min {a} {b} {r} e =
+    record {
+      left = omega (arith, e);
+      right = omega (arith, e);
+      one = by_cases (dec_lt b a) (λ (l : b < a). inr (omega (arith, e))) (λ (l : b < a → ⊥). inl (omega (arith, e)));
+    }
 
 lower-swap : {a b r : ℕ} → Lower a b r → Lower b a r
 lower-swap l = record { left = l.right; right = l.left; one = ⊎_elim (λ e. inr e) (λ e. inl e) l.one }
@@ -57,34 +66,6 @@ module _ (loads nodes : List ℕ) (from p v : ℕ) (size : length nodes ≡ 2 * 
       }
 
 module _ {loads nodes : List ℕ} where
-  -- at first nothing is played
-  pub play-begin : length nodes ≡ 2 * max_blocks → 0 < length loads → Playing loads nodes (2 * length loads) (2 * length loads)
-  play-begin e h =
-      record {
-        size = e;
-        low = omega arith;
-        high = le_refl (2 * length loads);
-        leaves = λ j l f. absurd (omega arith);
-        inner = λ i l f g. absurd (omega arith);
-      }
-
-  -- the node below those that are played
-  module _ {i p : ℕ} (k : Playing loads nodes i i) (few : length loads ≤ max_blocks) (e : p + 1 ≡ i) (h : 1 ≤ p) where
-    play-next : {v : ℕ} → ((j : ℕ) → length loads + j ≡ p → v ≡ key (get_or loads j 0) j)
-        → (p < length loads → Lower (get_or nodes (2 * p) 0) (get_or nodes (2 * p + 1) 0) v) → Playing loads (set nodes p v) p p
-    play-next {v} leaf node =
-        played loads nodes p p v k.size h (omega (arith, k.high)) (omega (arith, k.high, k.size))
-        (λ j l f d. k.leaves j l (omega arith))
-        (λ i' l f g d q. k.inner i' l (omega arith) g (λ (r : i' ≡ i / 2). omega arith))
-        leaf node
-
-    play-node : {v : ℕ} → p < length loads → Lower (get_or nodes (2 * p) 0) (get_or nodes (2 * p + 1) 0) v → Playing loads (set nodes p v) p p
-    play-node l n = play-next (λ j q. absurd (omega arith)) (λ _. n)
-
-    play-leaf : {v : ℕ} → length loads ≤ p → v ≡ key (get_or loads (p - length loads) 0) (p - length loads) → Playing loads (set nodes p v) p p
-    play-leaf l n =
-        play-next (λ j q. let s : p - length loads ≡ j = omega arith in n ∙ ap (λ (j : ℕ). key (get_or loads j 0) j) s) (λ q. absurd (omega arith))
-
   -- all are played
   pub play-done : {from at : ℕ} → Playing loads nodes from at → at ≤ 1 → from ≤ 1 → Tournament loads nodes
   play-done {from} {at} k h f =
@@ -96,23 +77,6 @@ module _ {loads nodes : List ℕ} where
 
 zeros : (k : ℕ) → length {A = ℕ} (replicate k 0) ≡ k
 zeros k = length-replicate k 0
-
-pub start-high : (k : ℕ) {nodes : List ℕ} {from at : ℕ} → Playing (replicate k 0) nodes from at → at ≤ 2 * k
-start-high k f = omega (arith, f.high, zeros k)
-
--- at first no block has a load
-module _ {k : ℕ} {nodes : List ℕ} where
-  pub start-begin : 0 < k → length nodes ≡ 2 * max_blocks → Playing (replicate k 0) nodes (2 * k) (2 * k)
-  start-begin h e = subst (λ (n : ℕ). Playing (replicate k 0) nodes (2 * n) (2 * n)) (zeros k) (play-begin e (omega (arith, (zeros k))))
-
-  module _ {i p : ℕ} (f : Playing (replicate k 0) nodes i i) (few : k ≤ max_blocks) (e : p + 1 ≡ i) (h : 1 ≤ p) where
-    pub start-node : {v : ℕ} → p < k → Lower (get_or nodes (2 * p) 0) (get_or nodes (2 * p + 1) 0) v → Playing (replicate k 0) (set nodes p v) p p
-    start-node l n = play-node f (omega (arith, (zeros k))) e h (omega (arith, (zeros k))) n
-
-    pub start-leaf : k ≤ p → Playing (replicate k 0) (set nodes p (p - k)) p p
-    start-leaf l =
-        play-leaf f (omega (arith, (zeros k))) e h (omega (arith, (zeros k)))
-        (rw (zeros k) (omega (arith, get_or-replicate {A = ℕ} k (p - k) 0 0 (omega (arith, f.high, (zeros k))))))
 
 -- of blocks with no load the first is the lightest
 pub lightest-zeros : {loads : List ℕ} {k : ℕ} → loads ≡ replicate k 0 → 0 < k → 0 ≡ lightest loads
@@ -152,26 +116,7 @@ pub record Replaying (loads nodes : List ℕ) (at least : ℕ) : Type 0 where
   pub inside : at < 2 * length loads
   pub held : get_or nodes at 0 ≡ least
 
--- a block with a new load plays again
-pub replay-begin : {b : ℕ} {loads nodes : List ℕ} → Outdated b loads nodes → {v : ℕ} → v ≡ key (get_or loads b 0) b
-    → Replaying loads (set nodes (length loads + b) v) (length loads + b) v
-replay-begin {b} {loads} {nodes} o {v} f =
-    record {
-      playing =
-          played loads nodes 1 (length loads + b) v o.played.size (omega (arith, o.inside)) (omega (arith, o.inside)) room
-          (λ j l g d. rw (o.size, o.others j (λ (q : j ≡ b). d (omega arith))) (o.played.leaves j (omega (arith, o.size))))
-          (λ i l g h d q. o.played.inner i l (omega (arith, o.size)))
-          (λ j q. let s : b ≡ j = omega arith in f ∙ ap (λ (j : ℕ). key (get_or loads j 0) j) s)
-          (λ q. absurd (omega arith));
-      few = o.few;
-      inside = omega (arith, o.inside);
-      held = get_or-set_same nodes (length loads + b) v 0 room;
-    }
-  where
-    room : length loads + b < length nodes
-    room = omega (arith, o.inside, o.few, o.played.size)
-
--- and so does the node above it: s is the other node with the same parent
+-- the node above plays again: s is the other node with the same parent
 pub replay-more : {loads nodes : List ℕ} {at least : ℕ} → Replaying loads nodes at least → 1 < at → (s : ℕ) {v : ℕ} → s + at ≡ 4 * (at / 2) + 1
     → Lower least (get_or nodes s 0) v → Replaying loads (set nodes (at / 2) v) (at / 2) v
 replay-more {loads} {nodes} {at} {least} k h s {v} e n =

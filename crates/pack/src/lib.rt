@@ -6,7 +6,6 @@ mod tournament;
 ghost use Rattle.std.specs.Prelude.{◌≡◌, ℕ, ◌<◌, length, get_or, replicate};
 ghost use Rattle.pack.specs.PackingSteps.{Packable, Packed, Topped, Assigned};
 
-use table::wide;
 use tournament::{NODES, replay, start};
 
 // Packs the groups by rising top, each into the block with the least load so far, and notes the block of each top.
@@ -18,14 +17,12 @@ fn pack(top: &[u32], carried: &[u32], block: &mut [u32], loads: &mut [u32])
     let mut nodes: [u64; NODES] = [0; NODES];
     start(loads.len(), &mut nodes);
     let mut best = 0;
-    let mut x = 0;
-    while x < top.len() {
-        if wide(top[x]) == x {
+    for (x, &above) in top.iter().enumerate() {
+        if above as usize == x {
             block[x] = best as u32;
             loads[best] += carried[x];
             best = replay(loads, best, &mut nodes);
         }
-        x += 1;
     }
 }
 
@@ -35,11 +32,8 @@ fn spread(top: &[u32], block: &mut [u32])
     requires block_len { length block.old ≡ length top.now }
     ensures { (x : ℕ) → x < length top.now → get_or block.new x 0 ≡ get_or block.old (get_or top.now x 0) 0 }
 {
-    let mut x = 0;
-    while x < top.len() {
-        let above = wide(top[x]);
-        block[x] = block[above];
-        x += 1;
+    for (x, &above) in top.iter().enumerate() {
+        block[x] = block[above as usize];
     }
 }
 
@@ -49,7 +43,7 @@ pub fn assign(top: &[u32], carried: &[u32], block: &mut [u32], loads: &mut [u32]
     requires packable { Packable top.now carried.now block.old loads.old }
     ensures { Assigned top.now carried.now block.new loads.new }
 {
-    table::fill(loads, 0);
+    loads.fill(0);
     pack(top, carried, block, loads);
     spread(top, block);
 }

@@ -4,7 +4,7 @@
 ghost use Rattle.std.specs.Prelude.{◌≡◌, ◌+◌, ◌*◌, ◌/◌, ◌≤◌, ◌<◌, length, replicate};
 ghost use Rattle.refusal.specs.DivisionLimits.{max_blocks};
 ghost use Rattle.pack.specs.Lightest.{lightest};
-ghost use Rattle.pack.specs.TournamentSteps.{key, Lower, Tournament, Outdated};
+ghost use Rattle.pack.specs.TournamentSteps.{key, Tournament, Outdated};
 
 // Room for the nodes of 1,000 blocks.
 pub const NODES: usize = 2_000;
@@ -17,12 +17,6 @@ fn key_of(load: u32, block: usize) -> u64
     ensures { result ≡ key load block }
 {
     load as u64 * NUMBERS + block as u64
-}
-
-fn lighter(a: u64, b: u64) -> u64
-    ensures { Lower a b result }
-{
-    if b < a { b } else { a }
 }
 
 // The node that has the same parent as i.
@@ -38,11 +32,9 @@ pub fn start(blocks: usize, nodes: &mut [u64])
     requires { (0 < blocks) × (blocks ≤ max_blocks) × (length nodes.old ≡ 2 * max_blocks) }
     ensures { Tournament (replicate blocks 0) nodes.new }
 {
-    let mut i = 2 * blocks;
-    while 1 < i {
-        i -= 1;
+    for i in (1..2 * blocks).rev() {
         if i < blocks {
-            nodes[i] = lighter(nodes[2 * i], nodes[2 * i + 1]);
+            nodes[i] = nodes[2 * i].min(nodes[2 * i + 1]);
         } else {
             nodes[i] = (i - blocks) as u64;
         }
@@ -62,7 +54,7 @@ pub fn replay(loads: &[u32], block: usize, nodes: &mut [u64]) -> usize
     }
     nodes[i] = least;
     while 1 < i {
-        least = lighter(least, nodes[sibling(i)]);
+        least = least.min(nodes[sibling(i)]);
         i /= 2;
         nodes[i] = least;
     }

@@ -61,7 +61,7 @@ module _ (n : ℕ) (es : List Edge) where
     index-answers : v < n → query_outcome (index_of n es) v ≡ answered (run es v) 0
     unfolding query_outcome index_of runs
     index-answers h =
-        rw (← place-accepted (index_of n es) v refl (query-none h) refl) (ap₂ answered here (query-none h))
+        rw (← place-accepted (index_of n es) v refl (query-none h)) (ap₂ answered here (query-none h))
       where
         here : take (get_or (index_of n es).starts (v + 1) 0 - get_or (index_of n es).starts v 0) (drop (get_or (index_of n es).starts v 0) (index_of n es).neighbours) ≡ run es v
         here =

@@ -4,10 +4,12 @@
 -- no starts at all is 2. .. A refused query hands back an empty part of the index; the number, or 0 if accepted, goes to a lent cell. A
 -- query takes neighbours of any length; starts that do not go from 0 up to their number without falling are 30 in it."
 -- Assumes nothing.
-use Rattle.std.specs.Prelude.{Bool, false, not, ◌&&◌, List, [], ◌∷◌, ℕ, ◌+◌, ◌-◌, eqb, leb, length, get_or, take, drop}
+use Rattle.std.specs.Prelude.{Bool, false, not, ◌&&◌, List, [], ◌∷◌, ℕ, ◌+◌, ◌-◌, Result, Ok, Err, eqb, leb, length, get_or, take, drop}
+use Rattle.refusal.specs.Numbers.{number_of}
 use Rattle.refusal.specs.Refusal.{given, first, unless, bad_count}
+use Rattle.refusal.specs.declared.kinds.Refusal.{Refusal}
 use Rattle.index.specs.Index.{Index, vertices}
-use Rattle.query.specs.declared.Place.{Place}
+use Rattle.query.specs.declared.Run.{Run}
 
 -- starts that go on from k up to the end without falling
 unfoldable pub rises_from : (k end : ℕ) → List ℕ → Bool
@@ -28,8 +30,19 @@ query_refusal t v =
     ∷ given (leb (vertices t) v) 4
     ∷ [])
 
+-- where a part of the index stands, and the number in the cell
+pub record Place : Type 0 where
+  pub number : ℕ
+  pub first : ℕ
+  pub count : ℕ
+
 abbrev pub place_of : (number first count : ℕ) → Place
 place_of number first count = record { number = number; first = first; count = count }
+
+-- what the code answers, as a place: a refused query's is an empty part at the front
+abbrev pub place : Result Run Refusal → Place
+place (Ok run) = place_of 0 run.first run.count
+place (Err r) = place_of (number_of r) 0 0
 
 -- where the part that is handed back stands in the index: where the run of v does, or nowhere
 unfoldable pub query_place : Index → (v : ℕ) → Place

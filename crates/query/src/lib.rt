@@ -3,15 +3,15 @@
 #![tactic(auto)]
 
 ghost use Rattle.std.specs.Prelude.{◌≡◌, ◌<◌, length};
+ghost use Rattle.refusal.specs.Numbers.{code};
 ghost use Rattle.index.specs.Index.{index};
-ghost use Rattle.query.specs.Query.{rises, query_refusal, query_place, answered, query_outcome};
+ghost use Rattle.query.specs.Query.{rises, query_refusal, query_place, place, answered, query_outcome};
 
-use table::wide;
+use refusal::Refusal;
 
-// Where the run of a vertex stands in the table of neighbours, or the number for which a query is refused.
-#[derive(Drop)]
-pub struct Place {
-    pub number: u32,
+// Where the run of a vertex stands in the table of neighbours.
+#[derive(Clone, Copy, Debug, PartialEq, Eq)]
+pub struct Run {
     pub first: u32,
     pub count: u32,
 }
@@ -21,54 +21,46 @@ fn starts_rise(starts: &[u32], end: usize) -> bool
     requires { 0 < length starts.now }
     ensures { result ≡ rises end starts.now }
 {
+    let last = starts.len() - 1;
     let mut falls = false;
-    let mut i = 0;
-    while i + 1 < starts.len() {
-        falls = falls | (starts[i + 1] < starts[i]);
-        i += 1;
+    for i in 0..last {
+        falls |= starts[i + 1] < starts[i];
     }
-    !falls & (starts[0] == 0) & (wide(starts[i]) == end)
+    !falls & (starts[0] == 0) & (starts[last] as usize == end)
 }
 
-// The number for which a query is refused, or 0.
-fn query_refusal(starts: &[u32], neighbours: &[u32], rank: u32) -> u32
-    ensures { result ≡ query_refusal (index starts.now neighbours.now) rank }
+// Whether a query is refused, and for what.
+#[tactic(auto, unfolding(crate::specs::Query::query_refusal, index::specs::Index::vertices, refusal::specs::Refusal::first, refusal::specs::Refusal::given))]
+fn query_refusal(starts: &[u32], neighbours: &[u32], rank: u32) -> Result<(), Refusal>
+    ensures { code result ≡ query_refusal (index starts.now neighbours.now) rank }
 {
     if starts.len() == 0 {
-        return 2;
+        return Err(Refusal::WrongLength);
     }
     let n = starts.len() - 1;
     if refusal::bad_count(n) {
-        return 1;
+        return Err(Refusal::BadCount);
     }
     if !starts_rise(starts, neighbours.len()) {
-        return 30;
+        return Err(Refusal::Damaged);
     }
-    if n <= wide(rank) {
-        return 4;
+    if n <= rank as usize {
+        return Err(Refusal::BadVertex);
     }
-    0
+    Ok(())
 }
 
-// Where the run of a rank stands. Refused, nowhere: an empty part at the front.
-pub fn locate(starts: &[u32], neighbours: &[u32], rank: u32) -> Place
-    ensures { result ≡ query_place (index starts.now neighbours.now) rank }
+// Where the run of a rank stands. A refused query has none.
+pub fn locate(starts: &[u32], neighbours: &[u32], rank: u32) -> Result<Run, Refusal>
+    ensures { place result ≡ query_place (index starts.now neighbours.now) rank }
 {
-    let number = query_refusal(starts, neighbours, rank);
-    if number != 0 {
-        return Place {
-            number,
-            first: 0,
-            count: 0,
-        };
-    }
-    let at = wide(rank);
+    query_refusal(starts, neighbours, rank)?;
+    let at = rank as usize;
     let first = starts[at];
-    Place {
-        number,
+    Ok(Run {
         first,
         count: starts[at + 1] - first,
-    }
+    })
 }
 
 // Hands back the run of a rank as a part of the table of neighbours, and in the cell 0. Refused, the part is empty and the cell has the
@@ -76,9 +68,16 @@ pub fn locate(starts: &[u32], neighbours: &[u32], rank: u32) -> Place
 pub fn query<'a>(starts: &[u32], neighbours: &'a [u32], rank: u32, cell: &mut u32) -> &'a [u32]
     ensures { answered result.now cell.new ≡ query_outcome (index starts.now neighbours.now) rank }
 {
-    let place = locate(starts, neighbours, rank);
-    *cell = place.number;
-    let first = wide(place.first);
-    let end = first + wide(place.count);
-    &neighbours[first..end]
+    match locate(starts, neighbours, rank) {
+        Ok(run) => {
+            *cell = 0;
+            let first = run.first as usize;
+            let end = first + run.count as usize;
+            &neighbours[first..end]
+        }
+        Err(refusal) => {
+            *cell = refusal.number();
+            &neighbours[..0]
+        }
+    }
 }

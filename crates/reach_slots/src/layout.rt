@@ -13,11 +13,8 @@ pub fn sum_subtrees(parents: &[u32], sums: &mut [u32])
     requires { Summable parents.now sums.old }
     ensures { Subtrees parents.now sums.old (entry_of sums.new) (sum_of sums.old) }
 {
-    let mut x = 0;
-    while x < parents.len() {
+    for (x, &parent) in parents.iter().enumerate() {
         let sum = sums[x];
-        let parent = parents[x];
-        x += 1;
         if parent != Net::ABSENT {
             add_at(sums, parent, sum);
         }
@@ -34,9 +31,7 @@ fn place_subtrees(parents: &[u32], total: u32, ends: &mut [u32], stops: &mut [u3
         → Layout parents.now w stops.new ends.new total }
 {
     let mut top = total;
-    let mut x = parents.len();
-    while 0 < x {
-        x -= 1;
+    for x in (0..parents.len()).rev() {
         let parent = parents[x];
         let size = ends[x];
         if parent == Net::ABSENT {
@@ -59,7 +54,7 @@ pub fn lay_out(parents: &[u32], counts: &[u32], total: u32, ends: &mut [u32], st
     requires ends_len { (length ends.old ≡ length parents.now) × (length stops.old ≡ length parents.now) }
     ensures { Layout parents.now counts.now stops.new ends.new total }
 {
-    table::copy(counts, ends);
+    ends.copy_from_slice(counts);
     sum_subtrees(parents, ends);
     place_subtrees(parents, total, ends, stops);
 }

@@ -51,11 +51,11 @@ fn visit(
         → Empty p ends.now ancestor.old previous.old overlaps.old
         → Balanced p counts.now overlaps.new (reach_of p es) }
 {
-    let mut k: u32 = 0;
     let mut u: u32 = 0;
     let mut stop: u32 = 0;
-    while (k as usize) < slots.len() {
-        let mut y = read_at(slots, k);
+    for (k, &entry) in slots.iter().enumerate() {
+        let k = k as u32;
+        let mut y = entry;
         if k == stop {
             u = y;
             stop = k + read_at(counts, u);
@@ -65,7 +65,6 @@ fn visit(
         let r = path_end(k, v, y, ends, ancestor);
         add_at(overlaps, r, 1);
         write_at(previous, y, u);
-        k += 1;
     }
 }
 
@@ -88,8 +87,8 @@ pub fn count_overlaps(
         → Slotted parents.now counts.now es filed stops ends.now first.now slots.now
         → Balanced parents.now counts.now overlaps.new (reach_of parents.now es) }
 {
-    table::copy(parents, ancestor);
-    table::fill(previous, Net::ABSENT);
-    table::fill(overlaps, 0);
+    ancestor.copy_from_slice(parents);
+    previous.fill(Net::ABSENT);
+    overlaps.fill(0);
     visit(counts, ends, first, slots, overlaps, ancestor, previous);
 }

@@ -1,10 +1,9 @@
 -- A loop that checks a file, record by record, before a reading: the rule of refusal 7 and the total.
 -- Assumes nothing.
-use mathlib.Core.Path.{◌≡◌, refl, sym, ap, ◌∙◌}
+use mathlib.Core.Path.{◌≡◌, sym, ap, ◌∙◌}
 use mathlib.Core.Bool.{true, false}
 use mathlib.Core.List.{List, ◌∷◌}
 use Prim.Native.Nat.{ℕ, ◌+◌, ◌*◌, ◌≤◌, ◌<◌}
-use native.Mathlib.Nat.{zero-add}
 use native.Mathlib.Numerals.{add-one}
 use native.Mathlib.Omega.{arith}
 use lib.ListN.{length, drop}
@@ -23,9 +22,6 @@ use Rattle.read.proofs.Records.{file-drop, file-end, file-lengths}
 pub record Checked (bytes : List ℕ) (n r t : ℕ) : Type 0 where
   pub parents : sound_from n r (file_net (drop (8 * r) bytes)).parents ≡ sound_from n 0 (file_net bytes).parents
   pub weights : t + sum (file_net (drop (8 * r) bytes)).weights ≡ sum (file_net bytes).weights
-
-pub checked-none : (bytes : List ℕ) (n : ℕ) → Checked bytes n 0 0
-checked-none bytes n = record { parents = refl; weights = zero-add _ }
 
 module _ {bytes : List ℕ} {n r t : ℕ} (whole : length bytes ≡ 8 * n) (c : Checked bytes n r t) where
   here : r < n → file_net (drop (8 * r) bytes)

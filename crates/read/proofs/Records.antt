@@ -56,9 +56,6 @@ pub record Taken (bytes parents weights : List ℕ) (r : ℕ) : Type 0 where
   pub parents_so_far : take r parents ++ (file_net (drop (8 * r) bytes)).parents ≡ (file_net bytes).parents
   pub weights_so_far : take r weights ++ (file_net (drop (8 * r) bytes)).weights ≡ (file_net bytes).weights
 
-pub taken_none : (bytes parents weights : List ℕ) → Taken bytes parents weights 0
-taken_none bytes parents weights = record { parents_so_far = refl; weights_so_far = refl }
-
 module _ {bytes parents weights : List ℕ} {n r : ℕ} (whole : length bytes ≡ 8 * n) (ep : length parents ≡ n) (ew : length weights ≡ n) (t : Taken bytes parents weights r) where
   -- the record here goes into the tables
   pub taken-turn : {p w : ℕ} → r < n → p ≡ word_at bytes (8 * r) → w ≡ word_at bytes (8 * r + 4) → Taken bytes (set parents r p) (set weights r w) (r + 1)

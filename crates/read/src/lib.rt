@@ -5,7 +5,7 @@ ghost use Rattle.std.specs.Prelude.{◌≡◌, ◌+◌, ◌*◌, ◌≤◌, leng
 ghost use Rattle.words.specs.Word.{word_at};
 ghost use Rattle.game.specs.Tree.{sound_parent};
 ghost use Rattle.refusal.specs.Limits.{max_vertices};
-ghost use Rattle.refusal.specs.Answer.{verdict};
+ghost use Rattle.refusal.specs.Numbers.{code, verdict};
 ghost use Rattle.refusal.specs.Outcome.{ended};
 ghost use Rattle.game.specs.Net.{net};
 ghost use Rattle.records.specs.LinkFile.{file_net};
@@ -13,11 +13,11 @@ ghost use Rattle.read.specs.Read.{unfit, read_refusal, read_outcome};
 
 use net::Net;
 use records::{RECORD, is_absent};
-use refusal::Answer;
-use table::{amount, wide};
+use refusal::Refusal;
 
 // Whether the parent in the record at place `at` may be that of the vertex at rank i among n: it is absent or stands above i,
 // within the table.
+#[tactic(auto, unfolding(game::specs::Tree::sound_parent))]
 fn is_parent_at(bytes: &[u8], at: usize, n: usize, i: usize) -> bool
     requires { at + 4 ≤ length bytes.now }
     ensures { result ≡ sound_parent n i (word_at bytes.now at) }
@@ -25,43 +25,42 @@ fn is_parent_at(bytes: &[u8], at: usize, n: usize, i: usize) -> bool
     if is_absent(bytes, at) {
         return true;
     }
-    let parent = wide(words::word_at(bytes, at));
+    let parent = words::word_at(bytes, at) as usize;
     (i < parent) & (parent < n)
 }
 
-// Refusal 7 or 20 of a file of n records, or 0. A wrong parent in any record comes before the total.
-fn records_refusal(bytes: &[u8], n: usize) -> u32
+// What a file of n records is refused for. A wrong parent in any record comes before the total.
+fn records_refusal(bytes: &[u8], n: usize) -> Result<(), Refusal>
     requires { (length bytes.now ≡ 8 * n) × (n ≤ max_vertices) }
-    ensures { result ≡ unfit (file_net bytes.now) }
+    ensures { code result ≡ unfit (file_net bytes.now) }
 {
     let mut total: u64 = 0;
-    let mut rank = 0;
-    while rank < n {
+    for rank in 0..n {
         let at = RECORD * rank;
         if !is_parent_at(bytes, at, n, rank) {
-            return 7;
+            return Err(Refusal::BadParent);
         }
-        total += amount(words::word_at(bytes, at + 4));
-        rank += 1;
+        total += u64::from(words::word_at(bytes, at + 4));
     }
     if Net::MAX_TOTAL < total {
-        return 20;
+        return Err(Refusal::Full);
     }
-    0
+    Ok(())
 }
 
-// The number for which a reading into tables of n parents and m weights is refused, or 0. What the tables hold is not looked at.
-fn read_refusal(n: usize, m: usize, bytes: &[u8]) -> u32
-    ensures { result ≡ read_refusal n m bytes.now }
+// What a reading into tables of n parents and m weights is refused for. What the tables hold is not looked at.
+#[tactic(auto, unfolding(crate::specs::Read::read_refusal, refusal::specs::Refusal::first, refusal::specs::Refusal::given, refusal::specs::Refusal::wrong_length))]
+fn read_refusal(n: usize, m: usize, bytes: &[u8]) -> Result<(), Refusal>
+    ensures { code result ≡ read_refusal n m bytes.now }
 {
     if refusal::bad_count(n) {
-        return 1;
+        return Err(Refusal::BadCount);
     }
     if m != n {
-        return 2;
+        return Err(Refusal::WrongLength);
     }
     if bytes.len() != RECORD * n {
-        return 6;
+        return Err(Refusal::BadFile);
     }
     records_refusal(bytes, n)
 }
@@ -71,26 +70,20 @@ fn take_records(parents: &mut [u32], weights: &mut [u32], bytes: &[u8])
     requires { (length weights.old ≡ length parents.old) × (length bytes.now ≡ 8 * length parents.old) }
     ensures { net parents.new weights.new ≡ file_net bytes.now }
 {
-    let n = parents.len();
-    let mut rank = 0;
-    while rank < n {
+    for rank in 0..parents.len() {
         let at = RECORD * rank;
         parents[rank] = words::word_at(bytes, at);
         weights[rank] = words::word_at(bytes, at + 4);
-        rank += 1;
     }
 }
 
 // Read: overwrites a net with the one that a link file says. Refused, it leaves the net as it was; nothing is written before
 // the whole file is checked.
-pub fn read(parents: &mut [u32], weights: &mut [u32], bytes: &[u8]) -> Answer
+pub fn read(parents: &mut [u32], weights: &mut [u32], bytes: &[u8]) -> Result<(), Refusal>
     ensures { ended (verdict result) (net parents.new weights.new)
         ≡ read_outcome (net parents.old weights.old) bytes.now }
 {
-    let code = read_refusal(parents.len(), weights.len(), bytes);
-    if code != 0 {
-        return Answer::Refused(code);
-    }
+    read_refusal(parents.len(), weights.len(), bytes)?;
     take_records(parents, weights, bytes);
-    Answer::Accepted
+    Ok(())
 }

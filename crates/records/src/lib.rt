@@ -15,6 +15,7 @@ pub const RECORD: usize = 8;
 const ABSENT_BYTES: [u8; 4] = *b"\xff\xff\xff\xff";
 
 // The four bytes of a parent.
+#[tactic(auto, unfolding(words::specs::Word::word_bytes))]
 pub fn parent_bytes(parent: u32) -> [u8; 4]
     ensures { result ≡ word_bytes parent }
 {
@@ -29,8 +30,5 @@ pub fn is_absent(bytes: &[u8], at: usize) -> bool
     requires { at + 4 ≤ length bytes.now }
     ensures { result ≡ eqb (word_at bytes.now at) absent }
 {
-    (bytes[at] == ABSENT_BYTES[0])
-        & (bytes[at + 1] == ABSENT_BYTES[1])
-        & (bytes[at + 2] == ABSENT_BYTES[2])
-        & (bytes[at + 3] == ABSENT_BYTES[3])
+    [bytes[at], bytes[at + 1], bytes[at + 2], bytes[at + 3]] == ABSENT_BYTES
 }

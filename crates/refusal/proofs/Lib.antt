@@ -4,5 +4,6 @@ pub mod Ends
 pub mod Fault
 pub mod First
 pub mod ListRefusal
+pub mod Numbers
 pub mod Never
 pub mod Sweep

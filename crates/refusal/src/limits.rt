@@ -40,12 +40,5 @@ pub fn bad_limits(limit: u32, blocks: u32) -> bool
 pub fn too_heavy(limit: u32, weights: &[u32]) -> bool
     ensures { result ≡ too_heavy limit weights.now }
 {
-    let mut i = 0;
-    while i < weights.len() {
-        if limit < weights[i] {
-            return true;
-        }
-        i += 1;
-    }
-    false
+    weights.iter().any(|&weight| limit < weight)
 }

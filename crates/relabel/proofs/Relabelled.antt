@@ -1,6 +1,6 @@
 -- Relabelled lists: they have no fault where the list had none, and they are what an accepted call ends with.
 -- Assumes nothing.
-use mathlib.Core.Path.{◌≡◌, refl, sym, ap, ap₂, ◌∙◌}
+use mathlib.Core.Path.{◌≡◌, refl, ap, ap₂, ◌∙◌}
 use mathlib.Core.Bool.{false}
 use mathlib.Core.List.{List, [], ◌∷◌}
 use Prim.Native.Nat.{ℕ, suc, ◌%◌, ◌<◌}
@@ -9,15 +9,15 @@ use Rattle.game.specs.Edge.{◌─◌, tie_of, ties}
 use Rattle.game.specs.Table.{tabulate}
 use Rattle.game.proofs.Tables.{tabulate-length, tabulate-entry}
 use Rattle.refusal.specs.Refusal.{first_fault}
-use Rattle.refusal.specs.Verdict.{accepted, refused}
+use Rattle.refusal.specs.Verdict.{accepted}
 use Rattle.refusal.specs.Outcome.{ended}
 use Rattle.refusal.proofs.Fault.{faultless, faultless-cons, fault-none, first-fault-on}
-use Rattle.refusal.proofs.Ends.{ends-refused, ends-accepted}
+use Rattle.refusal.proofs.Ends.{ends-accepted}
 use Rattle.order.specs.Order.{bad_order, rank_of, inverse_of}
 use Rattle.relabel.specs.Relabel.{relabelled, relabel_tables, relabel_refusal, relabel_outcome}
 use Rattle.relabel.specs.Steps.{looked_up, LookUp}
 use Rattle.order.proofs.Rank.{rank_below, rank-injective}
-use Rattle.relabel.proofs.Refused.{relabel-known}
+use Rattle.relabel.proofs.Accepted.{relabel-known}
 
 pub relabelled-length : (order xs : List ℕ) → length (relabelled order xs) ≡ length xs
 unfolding relabelled
@@ -59,15 +59,11 @@ unfolding inverse_of
 inverse-look-up order xs out e all f room =
     record { all = all; faultless = ap (λ (n : ℕ). first_fault n (ties xs)) (ap length e ∙ tabulate-length (length order) (rank_of order)) ∙ f; room = room }
 
--- the two ways in which a call ends
-module _ (order xs out inverse : List ℕ) {code : ℕ} (decides : code ≡ relabel_refusal order xs (length out) (length inverse)) where
-  pub relabel-refused : (code ≡ 0 → ⊥) → ended (refused code) (relabel_tables out inverse) ≡ relabel_outcome order xs (relabel_tables out inverse)
-  unfolding relabel_outcome
-  relabel-refused d = ends-refused _ _ _ _ decides (λ e. d (decides ∙ e)) refl
-
-  pub relabel-accepted : {out' inverse' : List ℕ} → code ≡ 0 → inverse' ≡ inverse_of order → out' ≡ looked_up inverse' xs → ended (accepted tt) (relabel_tables out' inverse') ≡ relabel_outcome order xs (relabel_tables out inverse)
-  unfolding relabel_outcome
-  relabel-accepted e i o =
-      let known = relabel-known order xs (length out) (length inverse) decides e in
-      ends-accepted _ _ _ _ refl (sym decides ∙ e)
-      (ap₂ relabel_tables (o ∙ ap (λ (t : List ℕ). looked_up t xs) i ∙ inverse-relabels order xs known.faultless) i)
+-- an accepted call ends with the list in ranks, and with the order's inverse
+pub relabel-accepted : (order xs out inverse : List ℕ) {out' inverse' : List ℕ} → relabel_refusal order xs (length out) (length inverse) ≡ 0 → inverse' ≡ inverse_of order → out' ≡ looked_up inverse' xs
+    → ended (accepted tt) (relabel_tables out' inverse') ≡ relabel_outcome order xs (relabel_tables out inverse)
+unfolding relabel_outcome
+relabel-accepted order xs out inverse e i o =
+    let known = relabel-known order xs (length out) (length inverse) e in
+    ends-accepted _ _ _ _ refl e
+    (ap₂ relabel_tables (o ∙ ap (λ (t : List ℕ). looked_up t xs) i ∙ inverse-relabels order xs known.faultless) i)

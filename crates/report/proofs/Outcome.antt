@@ -19,7 +19,13 @@ use Rattle.cost.specs.Figures.{totals_of}
 use Rattle.compare.specs.Compare.{unlike}
 use Rattle.compare.specs.Steps.{Compared}
 use Rattle.refusal.specs.Verdict.{accepted, refused, judged}
+use Rattle.std.specs.Prelude.{Result}
+use Rattle.std.specs.Result.{IsErrAnd}
+use Rattle.std.proofs.lemmas.Result.{err_from_is_err_and}
 use Rattle.refusal.specs.Outcome.{ended}
+use Rattle.refusal.specs.Numbers.{number_of, verdict}
+use Rattle.refusal.specs.declared.kinds.Refusal.{Refusal}
+use Rattle.refusal.proofs.Numbers.{number-positive}
 use Rattle.refusal.proofs.Ends.{judged-accepted, judged-refused}
 use Rattle.report_write.specs.Written.{Written, figures}
 use Rattle.report_write.specs.Steps.{Reportable, ReportWritten}
@@ -36,21 +42,21 @@ module _ (of : Net) (B k : ℕ) (xs : List ℕ) (was : Lent) where
   late = unlike of (ties xs)
 
   -- refused before the comparison: the number, and every table as it was
-  pub ends-early : {code : ℕ} {wrong : Bool} → code ≡ report_early of B k xs wrong → wrong ≡ wrong_lent of k xs was → (code ≡ 0 → ⊥)
-      → ended (refused code) was ≡ report_outcome of B k xs was
-  unfolding report_outcome report_refusal early late
-  ends-early {code} e w h = ap₂ ended (sym number) (sym (unless-refused early was _ some))
+  pub ends-early : {wrong : Bool} (r : Result Totals Refusal) (e : Refusal) → IsErrAnd r (λ y. y ≡ e) → number_of e ≡ report_early of B k xs wrong → wrong ≡ wrong_lent of k xs was
+      → ended (verdict r) was ≡ report_outcome of B k xs was
+  unfolding report_outcome report_refusal verdict early late
+  ends-early r e q h w =
+      let p = err_from_is_err_and r q in
+      rw p.1 (ap₂ ended (ap refused (ap number_of p.2 ∙ is) ∙ sym number) (sym (unless-refused early was _ some)))
     where
-      is : code ≡ early
-      is = e ∙ ap (report_early of B k xs) w
+      is : number_of e ≡ early
+      is = h ∙ ap (report_early of B k xs) w
 
       some : early ≡ 0 → ⊥
-      some z = h (is ∙ z)
+      some z = number-positive e (is ∙ z)
 
-      number : judged (first (early ∷ late ∷ [])) (totals_of of (edges xs) B k) ≡ refused code
-      number =
-          ap (λ (m : ℕ). judged m (totals_of of (edges xs) B k)) (first-stop early (late ∷ []) some)
-          ∙ judged-refused early _ some ∙ ap refused (sym is)
+      number : judged (first (early ∷ late ∷ [])) (totals_of of (edges xs) B k) ≡ refused early
+      number = ap (λ (m : ℕ). judged m (totals_of of (edges xs) B k)) (first-stop early (late ∷ []) some) ∙ judged-refused early _ some
 
   module _ (z : report_early of B k xs (wrong_lent of k xs was) ≡ 0) where
     passed : first (early ∷ late ∷ []) ≡ late

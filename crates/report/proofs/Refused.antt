@@ -1,38 +1,38 @@
 -- How the code's tests say what the definition of the refusals asks, and what is known where none was given.
 -- Assumes nothing.
-use mathlib.Core.Path.{◌≡◌, refl}
-use mathlib.Core.Bool.{false}
+use mathlib.Core.Path.{◌≡◌, sym, ap, ◌∙◌}
+use mathlib.Core.Bool.{Bool, false}
 use mathlib.Core.List.{List}
 use Prim.Native.Nat.{ℕ, ◌≤◌, ◌<◌}
 use lib.ListN.{length}
 use Rattle.game.specs.Edge.{ties, edges}
-use Rattle.game.specs.Net.{Net, net}
+use Rattle.game.specs.Net.{Net}
 use Rattle.game.proofs.Bools.{or-neither}
 use Rattle.refusal.specs.Limits.{max_edges}
 use Rattle.refusal.specs.Refusal.{bad_count, not_whole, first_fault}
 use Rattle.refusal.proofs.First.{first-none, given-none, good-count, length-right}
-use Rattle.growth.specs.Work.{work_of, bad_work}
-use Rattle.divide.specs.Divide.{division_of, wrong_tables, divide_refusal}
+use Rattle.growth.specs.Work.{bad_work}
+use Rattle.divide.specs.Divide.{wrong_tables, divide_refusal}
 use Rattle.divide.proofs.Refused.{Sized, tables-not, refused-not}
 use Rattle.compare.specs.Compare.{wrong_compared}
 use Rattle.compare.specs.Steps.{Comparable}
 use Rattle.refusal.proofs.ListRefusal.{list-passed}
 use Rattle.compare.proofs.Ready.{ComparedLengths, compared-lengths, comparable}
-use Rattle.report_write.specs.Written.{written}
 use Rattle.report_refusal.specs.Refused.{report_early}
 use Rattle.report_refusal.specs.Steps.{wrong_lengths}
-use Rattle.report.specs.Report.{Lent, lent, wrong_figures, wrong_lent}
+use Rattle.report.specs.Report.{Lent, wrong_figures, wrong_lent}
 
--- the tables that are lent, one by one
-module _ (p w xs c t b l eb re bc ta cp cw e j lo : List ℕ) where
-  abbrev was : Lent
-  was = lent (written (division_of c t b l) eb re bc ta) (net cp cw) (work_of e j lo)
-
-  -- 2, by the lengths of the tables one by one
-  pub wrong-lengths : (k : ℕ) → wrong_lengths k p w xs (length c) (length t) (length b) (length l) (length eb) (length re) (length bc) (length ta) (length cp) (length cw) (length e) (length j) (length lo)
-      ≡ wrong_lent (net p w) k xs was
+-- what the code's test of the lengths, one by one, tells
+module _ (of : Net) (k : ℕ) (xs : List ℕ) (was : Lent) {wrong : Bool}
+    (told : wrong ≡ wrong_lengths k of.parents of.weights xs (length was.written.division.carried) (length was.written.division.top) (length was.written.division.block)
+    (length was.written.division.block_loads) (length was.written.edge_blocks) (length was.written.reach) (length was.written.block_count) (length was.written.edges_taken)
+    (length was.compared.parents) (length was.compared.weights) (length was.work.ends) (length was.work.jump) (length was.work.lower)) where
+  pub lengths-told : wrong ≡ wrong_lent of k xs was
   unfolding wrong_lengths wrong_lent wrong_tables wrong_figures wrong_compared bad_work not_whole
-  wrong-lengths k = refl
+  lengths-told = told
+
+  pub early-told : (B : ℕ) → 0 ≡ report_early of B k xs wrong → report_early of B k xs (wrong_lent of k xs was) ≡ 0
+  early-told B h = sym (h ∙ ap (report_early of B k xs) lengths-told)
 
 -- the lengths where none is wrong
 pub record Lengths (of : Net) (k : ℕ) (xs : List ℕ) (was : Lent) : Type 0 where

@@ -8,15 +8,18 @@
 
 ghost use Rattle.std.specs.Prelude.{◌≡◌};
 ghost use Rattle.game.specs.Net.{net};
+ghost use Rattle.refusal.specs.Numbers.{verdict};
 ghost use Rattle.refusal.specs.Outcome.{ended};
-ghost use Rattle.divide.specs.Divide.{division_of};
+ghost use Rattle.divide.specs.Tables.{SameTables};
 ghost use Rattle.growth.specs.Work.{work_of};
-ghost use Rattle.report_write.specs.Written.{written};
+ghost use Rattle.report_write.specs.Tables.{written_in, SameFigures};
 ghost use Rattle.report.specs.Report.{lent, report_outcome};
-ghost use Rattle.cost.specs.Answer.{verdict};
 
-use cost::ReportAnswer;
+use cost::Totals;
+use divide::tables::Division;
+use refusal::Refusal;
 use report_refusal::{report_early, wrong_lengths};
+use report_write::tables::Figures;
 use report_write::write_report;
 
 // Divides a net and reports what the division costs, given the net's own edges. Beside Divide's tables it writes the block of each
@@ -29,52 +32,39 @@ pub fn report(
     limit: u32,
     blocks: u32,
     edges: &[u32],
-    carried: &mut [u32],
-    top: &mut [u32],
-    block: &mut [u32],
-    block_loads: &mut [u32],
-    edge_blocks: &mut [u32],
-    reach: &mut [u32],
-    block_count: &mut [u32],
-    edges_taken: &mut [u32],
+    division: &mut Division<'_>,
+    figures: &mut Figures<'_>,
     compared_parents: &mut [u32],
     compared_weights: &mut [u32],
     ends: &mut [u32],
     jump: &mut [u32],
     lower: &mut [u32],
-) -> ReportAnswer
-    ensures { ended (verdict result)
-        (lent (written (division_of carried.new top.new block.new block_loads.new) edge_blocks.new reach.new block_count.new edges_taken.new)
+) -> Result<Totals, Refusal>
+    ensures outcome { ended (verdict result)
+        (lent (written_in division.new figures.new)
         (net compared_parents.new compared_weights.new)
         (work_of ends.new jump.new lower.new))
         ≡ report_outcome (net parents.now weights.now) limit blocks edges.now
-        (lent (written (division_of carried.old top.old block.old block_loads.old) edge_blocks.old reach.old block_count.old edges_taken.old)
+        (lent (written_in division.old figures.old)
         (net compared_parents.old compared_weights.old)
         (work_of ends.old jump.old lower.old)) }
+    ensures same { SameTables division.old division.new }
+    ensures same_figures { SameFigures figures.old figures.new }
 {
     let wrong = wrong_lengths(
         blocks,
         parents,
         weights,
         edges,
-        carried.len(),
-        top.len(),
-        block.len(),
-        block_loads.len(),
-        edge_blocks.len(),
-        reach.len(),
-        block_count.len(),
-        edges_taken.len(),
+        division,
+        figures,
         compared_parents.len(),
         compared_weights.len(),
         ends.len(),
         jump.len(),
         lower.len(),
     );
-    let code = report_early(parents, weights, limit, blocks, edges, wrong);
-    if code != 0 {
-        return ReportAnswer::Refused(code);
-    }
+    report_early(parents, weights, limit, blocks, edges, wrong)?;
     if !compare::compare(
         parents,
         weights,
@@ -85,23 +75,9 @@ pub fn report(
         jump,
         lower,
     ) {
-        return ReportAnswer::Refused(23);
+        return Err(Refusal::OtherEdges);
     }
-    ReportAnswer::Accepted(write_report(
-        parents,
-        weights,
-        limit,
-        edges,
-        carried,
-        top,
-        block,
-        block_loads,
-        edge_blocks,
-        reach,
-        block_count,
-        edges_taken,
-        ends,
-        jump,
-        lower,
+    Ok(write_report(
+        parents, weights, limit, edges, division, figures, ends, jump, lower,
     ))
 }

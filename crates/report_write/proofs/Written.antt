@@ -20,7 +20,7 @@ use Rattle.divide.specs.Divide.{DivisionTables, division_of, divided}
 use Rattle.reach_slots.specs.Given.{Given, lower_count, lower_counts}
 use Rattle.cut.specs.Cut.{top}
 use Rattle.divide.specs.Steps.{Fitting}
-use Rattle.divide.proofs.Laws.{block-loads-sum}
+use Rattle.divide.proofs.Laws.{block-loads-long, block-loads-sum}
 use Rattle.share.specs.Share.{even_share}
 use Rattle.block_count.specs.BlockCount.{edge_blocks_of, block_count_of}
 use Rattle.cost.specs.Figures.{bound, bound_of, volume_of, share_of, totals, totals_of}
@@ -85,19 +85,22 @@ module _ {p w c t b l eb re bc en lo : List ℕ} {es : List Edge} {B : ℕ} (q :
   reach-long : length re' ≡ length p
   reach-long = ap length s.reached ∙ tabulate-length (length p) (reach p es)
 
+  pub loads-long : length l' ≡ length l
+  loads-long = ap (λ (d : DivisionTables). length d.block_loads) s.divided_so ∙ block-loads-long q.divisible (length l) q.division.some
+
   pub block-proper : Proper (length b') es
   block-proper = subst (λ (n : ℕ). Proper n es) (sym block-long) q.own.proper
 
-  pub block-countable : {m : ℕ} {bc' ta ju : List ℕ} → m ≡ length l → length bc' ≡ length bc → ta ≡ lower_counts (length p) es → length ju ≡ length p → Countable es ta b' m en lo bc' ju
+  pub block-countable : {bc' ta ju : List ℕ} → length bc' ≡ length bc → ta ≡ lower_counts (length p) es → length ju ≡ length p → Countable es ta b' (length l') en lo bc' ju
   unfolding of k
-  block-countable {m} e f g h = record {
+  block-countable f g h = record {
     few = omega (arith, block-long, q.own.vertices);
     few_edges = q.own.few;
     filed = subst (λ (n : ℕ). Filed n es en lo) (sym block-long) q.filed;
     counted = g ∙ ap (λ (n : ℕ). lower_counts n es) (sym block-long);
-    some = omega (arith, q.division.some);
-    small = omega (arith, q.division.few);
-    blocks = λ x i. omega (arith, ap (λ (t : List ℕ). get_or t x 0) block-is, block-below of B k q.division.some x (omega (arith, block-long)));
+    some = omega (arith, loads-long, q.division.some);
+    small = omega (arith, loads-long, q.division.few);
+    blocks = λ x i. omega (arith, loads-long, ap (λ (t : List ℕ). get_or t x 0) block-is, block-below of B k q.division.some x (omega (arith, block-long)));
     counts_long = f ∙ q.counts ∙ sym block-long;
     pending_long = h ∙ sym block-long;
   }
@@ -106,33 +109,33 @@ module _ {p w c t b l eb re bc en lo : List ℕ} {es : List Edge} {B : ℕ} (q :
   loads-total : sum l' ≡ sum w
   loads-total = ap (λ (d : DivisionTables). sum d.block_loads) s.divided_so ∙ block-loads-sum q.divisible (length l) q.division.some
 
-  pub summable : {bc'' : List ℕ} → length l' ≡ length l → length bc'' ≡ length p → ReportTables p t' re' bc'' l'
-  summable e f = record {
+  pub summable : {bc'' : List ℕ} → length bc'' ≡ length p → ReportTables p t' re' bc'' l'
+  summable f = record {
     few = q.own.vertices;
     tops = top-long;
     reaches = reach-long;
     counts = f;
-    some = omega (arith, e, q.division.some);
-    few_blocks = omega (arith, e, q.division.few);
+    some = omega (arith, loads-long, q.division.some);
+    few_blocks = omega (arith, loads-long, q.division.few);
     small = omega (arith, loads-total, q.divisible.small);
   }
 
   -- all that was written, and the answer
-  pub all-answered : {m : ℕ} {eb'' bc'' ta'' jump : List ℕ} (jump' : List ℕ) {r : Totals} {work : Work} → m ≡ length l → eb'' ≡ edge_blocks_of b' es → Writes es b' m bc'' ta''
-      → length jump' ≡ length jump → work ≡ cleared (work_of en jump' lo) → length l' ≡ length l → r ≡ summed p t' re' bc'' l'
+  pub all-answered : {eb'' bc'' ta'' jump : List ℕ} (jump' : List ℕ) {r : Totals} {work : Work} → eb'' ≡ edge_blocks_of b' es → Writes es b' (length l') bc'' ta''
+      → length jump' ≡ length jump → work ≡ cleared (work_of en jump' lo) → r ≡ summed p t' re' bc'' l'
       → ReportWritten (net p w) B (length l) es (work_of en jump lo) r (written (division_of c' t' b' l') eb'' re' bc'' ta'') work
   unfolding figures totals_of bound_of volume_of share_of summed of k cleared zeros
-  all-answered {m} {eb''} {bc''} {ta''} jump' e f g j z h a = record {
+  all-answered {eb''} {bc''} {ta''} jump' f g j z a = record {
     answers = a ∙ (λ i. totals
         ((bound-by p es t' s.reached ∙ ap (bound p es) top-is) i)
         (volume-by (length p) (length l) (divided of B k).block es counted i)
-        (even_share (loads-total i) (h i)));
+        (even_share (loads-total i) (loads-long i)));
     writes = λ i. written (s.divided_so i) ((f ∙ ap (λ (t : List ℕ). edge_blocks_of t es) block-is) i) (s.reached i) (counted i) (took i);
     clear = z ∙ ap (λ (n : ℕ). work_of (zeros en) (replicate n 0) (zeros lo)) j;
   }
     where
       counted : bc'' ≡ tabulate (length p) (block_count_of (length l) (divided of B k).block es)
-      counted = g.counted ∙ (λ i. tabulate (block-long i) (block_count_of (e i) (block-is i) es))
+      counted = g.counted ∙ (λ i. tabulate (block-long i) (block_count_of (loads-long i) (block-is i) es))
 
       took : ta'' ≡ tabulate (length p) (edges_taken_of (length l) (divided of B k).block es)
-      took = g.took ∙ (λ i. tabulate (block-long i) (edges_taken_of (e i) (block-is i) es))
+      took = g.took ∙ (λ i. tabulate (block-long i) (edges_taken_of (loads-long i) (block-is i) es))

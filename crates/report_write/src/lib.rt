@@ -5,19 +5,22 @@
 ghost use Rattle.std.specs.Prelude.{◌≡◌, List, length};
 ghost use Rattle.game.specs.Edge.{Edge, edges as edges_of};
 ghost use Rattle.game.specs.Net.{net};
-ghost use Rattle.divide.specs.Divide.{division_of};
+ghost use Rattle.divide.specs.Tables.{held, SameTables};
 ghost use Rattle.growth.specs.Work.{work_of};
 ghost use Rattle.reach_slots.specs.Given.{lower_counts};
-ghost use Rattle.report_write.specs.Written.{written};
+ghost use Rattle.report_write.specs.Tables.{written_in, SameFigures};
 ghost use Rattle.report_write.specs.Steps.{Reportable, Spread, ReportWritten};
+
+pub mod tables;
 
 use cost::Totals;
 use divide::cut_and_pack;
+use divide::tables::Division;
 use reach::reaches;
-use table::narrow;
+use tables::Figures;
 
-// Divides the net, and writes the reaches of its vertices, from its edges as they are filed and counted by their lower end. The reaches come first: until the other
-// tables are written, they are room for the counting.
+// Divides the net, and writes the reaches of its vertices, from its edges as they are filed and counted by their lower end. The reaches
+// come first: until the other tables are written, they are room for the counting.
 fn divide_and_reach(
     parents: &[u32],
     weights: &[u32],
@@ -25,22 +28,20 @@ fn divide_and_reach(
     counts: &[u32],
     ends: &[u32],
     lower: &[u32],
-    carried: &mut [u32],
-    top: &mut [u32],
-    block: &mut [u32],
-    block_loads: &mut [u32],
+    division: &mut Division<'_>,
     edge_blocks: &mut [u32],
     reach: &mut [u32],
     block_count: &mut [u32],
 )
     requires { (es : List Edge) × Reportable parents.now weights.now limit es ends.now lower.now
-        (division_of carried.old top.old block.old block_loads.old) edge_blocks.old reach.old block_count.old
+        (held division.old) edge_blocks.old reach.old block_count.old
         × (counts.now ≡ lower_counts (length parents.now) es) }
-    ensures { (es : List Edge) → Reportable parents.now weights.now limit es ends.now lower.now
-        (division_of carried.old top.old block.old block_loads.old) edge_blocks.old reach.old block_count.old
+    ensures outcome { (es : List Edge) → Reportable parents.now weights.now limit es ends.now lower.now
+        (held division.old) edge_blocks.old reach.old block_count.old
         → counts.now ≡ lower_counts (length parents.now) es
-        → Spread parents.now weights.now limit (length block_loads.old) es
-        (division_of carried.new top.new block.new block_loads.new) reach.new }
+        → Spread parents.now weights.now limit (length division.old.loads.now) es
+        (held division.new) reach.new }
+    ensures same { SameTables division.old division.new }
 {
     reaches(
         parents,
@@ -48,13 +49,13 @@ fn divide_and_reach(
         ends,
         lower,
         reach,
-        carried,
-        top,
-        block,
+        division.carried,
+        division.top,
+        division.block,
         block_count,
         edge_blocks,
     );
-    cut_and_pack(parents, weights, limit, carried, top, block, block_loads);
+    cut_and_pack(parents, weights, limit, division);
 }
 
 // Writes all that a report says of a net, and answers its bound, its volume and the even share. The edges are filed in the work tables,
@@ -65,26 +66,26 @@ pub fn write_report(
     weights: &[u32],
     limit: u32,
     edges: &[u32],
-    carried: &mut [u32],
-    top: &mut [u32],
-    block: &mut [u32],
-    block_loads: &mut [u32],
-    edge_blocks: &mut [u32],
-    reach: &mut [u32],
-    block_count: &mut [u32],
-    edges_taken: &mut [u32],
+    division: &mut Division<'_>,
+    figures: &mut Figures<'_>,
     ends: &mut [u32],
     jump: &mut [u32],
     lower: &mut [u32],
 ) -> Totals
     requires { Reportable parents.now weights.now limit (edges_of edges.now) ends.old lower.old
-        (division_of carried.old top.old block.old block_loads.old) edge_blocks.old reach.old block_count.old
-        × (length edges_taken.old ≡ length parents.now) × (length jump.old ≡ length parents.now) }
-    ensures { ReportWritten (net parents.now weights.now) limit (length block_loads.old) (edges_of edges.now)
+        (held division.old) figures.old.edge_blocks.now figures.old.reach.now figures.old.block_count.now
+        × (length figures.old.edges_taken.now ≡ length parents.now) × (length jump.old ≡ length parents.now) }
+    ensures outcome { ReportWritten (net parents.now weights.now) limit (length division.old.loads.now) (edges_of edges.now)
         (work_of ends.old jump.old lower.old) result
-        (written (division_of carried.new top.new block.new block_loads.new) edge_blocks.new reach.new block_count.new edges_taken.new)
+        (written_in division.new figures.new)
         (work_of ends.new jump.new lower.new) }
+    ensures same { SameTables division.old division.new }
+    ensures same_figures { SameFigures figures.old figures.new }
 {
+    let edge_blocks = &mut *figures.edge_blocks;
+    let reach = &mut *figures.reach;
+    let block_count = &mut *figures.block_count;
+    let edges_taken = &mut *figures.edges_taken;
     bucket::count_lower(ends, lower, edges_taken);
     divide_and_reach(
         parents,
@@ -93,19 +94,19 @@ pub fn write_report(
         edges_taken,
         ends,
         lower,
-        carried,
-        top,
-        block,
-        block_loads,
+        division,
         edge_blocks,
         reach,
         block_count,
     );
+    let top = &mut *division.top;
+    let block = &mut *division.block;
+    let loads = &mut *division.loads;
     cost::write_edge_blocks(edges, block, edge_blocks);
     block_count::write_block_counts(
         edges,
         block,
-        narrow(block_loads.len()),
+        loads.len() as u32,
         ends,
         lower,
         block_count,
@@ -113,5 +114,5 @@ pub fn write_report(
         jump,
     );
     growth::clear(ends, jump, lower, 0);
-    cost::sum_up(parents, top, reach, block_count, block_loads)
+    cost::sum_up(parents, top, reach, block_count, loads)
 }

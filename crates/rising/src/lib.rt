@@ -12,27 +12,20 @@ ghost use Rattle.growth.specs.Growth.{new_parents, Untouched};
 ghost use Rattle.growth.specs.Moves.{Moves};
 ghost use Rattle.rising.specs.Rising.{Rises, Takable};
 
-use bucket::end_of;
 use net::Net;
-use table::wide;
 
 // Whether no tie of a list has a fault and no upper end is below the one before. The list is read up to the first that breaks either,
 // which in most lists is one of the first.
 pub fn is_rising(n: usize, edges: &[u32]) -> bool
     ensures { result ≡ true → Rises n 0 (ties_of edges.now) }
 {
-    let m = edge::count(edges);
     let mut last = 0;
-    let mut i = 0;
-    while i < m {
-        let e = edge::at(edges, i);
-        let rows = edge::rows(edges, i);
-        let end = end_of(true, e.a, e.b);
-        if (n <= wide(end)) | (e.a == e.b) | refusal::bad_rows(rows) | (end < last) {
+    for tie in edge::ties(edges) {
+        let end = tie.upper();
+        if (n <= end as usize) | (tie.a == tie.b) | refusal::bad_rows(tie.rows) | (end < last) {
             return false;
         }
         last = end;
-        i += 1;
     }
     true
 }
@@ -46,17 +39,12 @@ fn raise_list(edges: &[u32], weights: &mut [u32], parents: &mut [u32], jump: &mu
         × Untouched parents.old jump.old parents.new jump.new
         × Moves parents.old jump.old absent parents.new jump.new result }
 {
-    let m = edge::count(edges);
     let mut moved = Net::ABSENT;
-    let mut i = 0;
-    while i < m {
-        let e = edge::at(edges, i);
-        let rows = edge::rows(edges, i);
-        let u = end_of(false, e.a, e.b);
-        let y = end_of(true, e.a, e.b);
-        table::add_at(weights, u, rows);
+    for tie in edge::ties(edges) {
+        let u = tie.lower();
+        let y = tie.upper();
+        table::add_at(weights, u, tie.rows);
         moved = growth::climb(u, y, parents, jump, moved);
-        i += 1;
     }
     moved
 }
@@ -77,7 +65,7 @@ pub fn grow_list(
         × (work_of ends.new jump.new lower.new ≡ cleared (work_of ends.old jump.old lower.old))
         × Differ parents.old parents.new result }
 {
-    table::fill(jump, Net::ABSENT);
+    jump.fill(Net::ABSENT);
     let moved = raise_list(edges, weights, parents, jump);
     growth::clear(ends, jump, lower, 0);
     moved

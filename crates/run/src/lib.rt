@@ -20,13 +20,14 @@ pub fn run(marks: &[u8], ties: &[u8], want: &[u8], text: &mut [u8; TEXT]) -> usi
 {
     let mut order = [0u32; VERTICES];
     let mut edges = [0u32; EDGE_NUMBERS];
-    let code = files::load(marks, ties, want, &mut order, &mut edges);
-    if code != 0 {
-        return lines::put_refused(text, code);
+    match files::load(marks, ties, want, &mut order, &mut edges) {
+        Ok(()) => {
+            let n = marks.len() / files::WORD;
+            let numbers = ties.len() / files::WORD;
+            let limit = words::word_at(want, 0);
+            let blocks = words::word_at(want, files::WORD);
+            run_report::divide(&order[..n], &edges[..numbers], limit, blocks, text)
+        }
+        Err(refusal) => lines::put_refused(text, refusal),
     }
-    let n = marks.len() / files::WORD;
-    let numbers = ties.len() / files::WORD;
-    let limit = words::word_at(want, 0);
-    let blocks = words::word_at(want, files::WORD);
-    run_report::divide(&order[..n], &edges[..numbers], limit, blocks, text)
 }

@@ -6,6 +6,7 @@ use mathlib.Core.List.{List}
 use Prim.Native.Nat.{ℕ, ◌+◌, ◌/◌, ◌%◌, ◌≤◌, ◌<◌}
 use native.Mathlib.Omega.{arith}
 use lib.ListN.{length}
+use Rattle.std.specs.Prelude.{Option}
 use borrow.Author.Tests.{ne_eqb, le-ltb}
 use Rattle.game.specs.Edge.{ties, edges}
 use Rattle.game.specs.Net.{net, net_of}
@@ -15,7 +16,6 @@ use Rattle.refusal.specs.Refusal.{bad_count, not_whole, first_fault}
 use Rattle.refusal.specs.Verdict.{Verdict}
 use Rattle.refusal.specs.Outcome.{Outcome, ended, decided}
 use Rattle.refusal.proofs.First.{pass, first-last, right-length, whole-list, list-whole, unless-accepted}
-use Rattle.moved.specs.declared.Moved.{Moved}
 use Rattle.growth.specs.Work.{Work, work_of, NetWithWork, with_work}
 use Rattle.start.specs.Start.{start_outcome}
 use Rattle.add.specs.Add.{add_outcome}
@@ -91,7 +91,7 @@ module _ {o xs ranks p w v e j l : List ℕ} (r : Runnable o xs) (room : GrowRoo
         }
 
     -- all calls together
-    pub all_grown : {m' : Verdict (Unit {0})} {m'' : Verdict Moved} {p' w' p'' w'' e'' j'' l'' : List ℕ} → ended m' (net p' w') ≡ start_outcome (net p w)
+    pub all_grown : {m' : Verdict (Unit {0})} {m'' : Verdict (Option ℕ)} {p' w' p'' w'' e'' j'' l'' : List ℕ} → ended m' (net p' w') ≡ start_outcome (net p w)
         → ended m'' (with_work (net p'' w'') (work_of e'' j'' l'')) ≡ add_outcome (with_work (net p' w') (work_of e j l)) ranks'
         → RankedNet o xs ranks' (net p'' w'')
     all_grown s a =

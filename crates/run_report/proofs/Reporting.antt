@@ -1,7 +1,7 @@
 -- A report on the net of a run: only 22 can be given, and its text is what the run prints.
 -- Assumes nothing.
 use mathlib.Core.Path.{◌≡◌, refl, sym, ap, subst, ◌∙◌}
-use mathlib.Core.Bool.{false}
+use mathlib.Core.Bool.{Bool, false}
 use mathlib.Core.List.{List, [], ◌∷◌, ◌++◌}
 use Prim.Native.Nat.{ℕ, zero, suc, ◌+◌, ◌*◌, ◌≤◌}
 use native.Mathlib.Omega.{arith}
@@ -10,21 +10,23 @@ use borrow.Author.Tests.{le-ltb}
 use Rattle.game.specs.Edge.{Tie, without_rows, ties, edges}
 use Rattle.game.specs.Net.{Net, net_of, total}
 use Rattle.game.specs.Graph.{Proper}
+use Rattle.game.proofs.Bools.{test-cases}
 use Rattle.game.proofs.Edges.{edges-ties}
 use Rattle.game.proofs.Sound.{true-sound}
 use Rattle.game.proofs.Forest.{forest-length, forest-sound}
+use Rattle.game.proofs.Tables.{tabulate-length}
 use Rattle.game.proofs.Weights.{weights-length, weights-charges}
 use Rattle.refusal.specs.Limits.{max_total}
 use Rattle.refusal.specs.Refusal.{given, first, unless, bad_count, first_fault}
 use Rattle.refusal.specs.Verdict.{Verdict, judged}
 use Rattle.refusal.specs.Outcome.{Outcome, ended}
-use Rattle.refusal.proofs.First.{pass, first-pass, first-last, right-length, unless-accepted}
+use Rattle.refusal.proofs.First.{pass, first-pass, first-last, right-length, unless-accepted, unless-refused}
 use Rattle.refusal.proofs.Fault.{faultless-proper, charges-most}
 use Rattle.refusal.proofs.ListRefusal.{list-passes}
 use Rattle.net.specs.Damage.{damaged_by, damaged}
 use Rattle.growth.specs.Work.{bad_work}
 use Rattle.refusal.specs.DivisionLimits.{too_heavy}
-use Rattle.divide.specs.Divide.{wrong_tables}
+use Rattle.divide.specs.Divide.{divided, wrong_tables}
 use Rattle.decimal.specs.Put.{PutText}
 use Rattle.cost.specs.declared.Totals.{Totals}
 use Rattle.cost.specs.Figures.{totals_of}
@@ -87,20 +89,6 @@ module _ {o ranks : List ℕ} {B k : ℕ} {of : Net} (g : Ready o ranks B k of) 
   weights : length of.weights ≡ length o
   unfolding net_of
   weights = ap (λ (net : Net). length net.weights) g.own ∙ weights-length (length o) (ties ranks)
-
-  -- what writing the lines asks
-  pub columns : {r t b c : List ℕ} → length r ≡ length o → length t ≡ length o → length b ≡ length o → length c ≡ length o
-      → Columns o of.parents of.weights r t b c
-  columns er et eb ec =
-      record {
-        few = omega (arith, g.vertices);
-        parents = vertices;
-        weights = weights;
-        reach = er;
-        top = et;
-        block = eb;
-        block_count = ec;
-      }
 
   pub text-room : (room : ℕ) → text_room ≤ room → line_room * length o + totals_room ≤ room
   text-room room h = omega (arith, g.vertices)
@@ -171,6 +159,47 @@ module _ {o ranks : List ℕ} {B k : ℕ} {of : Net} (g : Ready o ranks B k of) 
           ∙ ap (λ (t : Lent). t.written) (unless-accepted (report_early of B k ranks (wrong_lent of k ranks was)) was _ (only-heavy ∙ z))
           ∙ unless-accepted (unlike of (ties ranks)) was.written (figures of B k (edges ranks)) same
 
+      -- the tables hold what they did, or what is written
+      either : (P : Written → Type 0) → P was.written → P (figures of B k (edges ranks)) → P new.written
+      unfolding report_outcome code given
+      either P before after =
+          test-cases (too_heavy B of.weights)
+          (λ e.
+          let heavy : given (too_heavy B of.weights) 22 ≡ 22 = ap (λ (b : Bool). given b 22) e in
+          let kept : new.written ≡ was.written =
+          ap (λ (e : Outcome Totals Lent). e.tables.written) ends
+          ∙ ap (λ (t : Lent). t.written) (unless-refused (report_early of B k ranks (wrong_lent of k ranks was)) was _ (λ z. omega (arith, only-heavy, heavy, z))) in
+          subst P (sym kept) before)
+          (λ e. subst P (sym (writes (ap (λ (b : Bool). given b 22) e))) after)
+
+      -- so they are as long as they were: what writing the lines asks
+      reach-long : length new.written.reach ≡ length o
+      unfolding figures
+      reach-long = either (λ w. length w.reach ≡ length o) room.reach (tabulate-length _ _ ∙ vertices)
+
+      count-long : length new.written.block_count ≡ length o
+      unfolding figures
+      count-long = either (λ w. length w.block_count ≡ length o) room.block_count (tabulate-length _ _ ∙ vertices)
+
+      top-long : length new.written.division.top ≡ length o
+      unfolding figures divided
+      top-long = either (λ w. length w.division.top ≡ length o) room.top (tabulate-length _ _ ∙ vertices)
+
+      block-long : length new.written.division.block ≡ length o
+      unfolding figures divided
+      block-long = either (λ w. length w.division.block ≡ length o) room.block (tabulate-length _ _ ∙ vertices)
+
+      pub columns : Columns o of.parents of.weights new.written.reach new.written.division.top new.written.division.block new.written.block_count
+      columns = record {
+        few = omega (arith, g.vertices);
+        parents = vertices;
+        weights = weights;
+        reach = reach-long;
+        top = top-long;
+        block = block-long;
+        block_count = count-long;
+      }
+
       accepted-text : code ≡ 0 → lines of new.written ++ totals_text (totals_of of (edges ranks) B k) ≡ report_text o (ties ranks) B k
       unfolding report_text lines edges
       accepted-text z =
@@ -183,11 +212,8 @@ module _ {o ranks : List ℕ} {B k : ℕ} {of : Net} (g : Ready o ranks B k of) 
           by_number code q _ _ _ verdict-is accepted-text
           ∙ ap (λ (net : Net). decided_text (given (too_heavy B net.weights) 22) (report_text o (ties ranks) B k)) g.own
 
-      pub put-prints : {r t b c text text' : List ℕ} {end : ℕ} → r ≡ new.written.reach → t ≡ new.written.division.top → b ≡ new.written.division.block
-          → c ≡ new.written.block_count → PutText text 0 (answer_text q (lines_below (rank_text o of.parents of.weights r t b c) (length o))) text' end
+      pub put-prints : {text text' : List ℕ} {end : ℕ}
+          → PutText text 0 (answer_text q (lines_below (rank_text o of.parents of.weights new.written.reach new.written.division.top new.written.division.block new.written.block_count) (length o))) text' end
           → PutText text 0 (net_text o (ties ranks) B k) text' end
       unfolding lines
-      put-prints {text = text} {text'} {end} er et eb ec p =
-          subst (λ (printed : List ℕ). PutText text 0 printed text' end)
-          ((λ i. answer_text q (lines_below (rank_text o of.parents of.weights (er i) (et i) (eb i) (ec i)) (length o))) ∙ prints)
-          p
+      put-prints {text} {text'} {end} p = subst (λ (printed : List ℕ). PutText text 0 printed text' end) prints p

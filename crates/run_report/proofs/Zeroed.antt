@@ -44,15 +44,15 @@ module _ (most n : ℕ) (h : n ≤ most) (t : List ℕ) (kept : length t ≡ len
   pub front-is : take n (t ++ drop n (replicate most 0)) ≡ t
   front-is = take_at t (drop n (replicate most 0)) n as_long
 
-  pub front_length : length (take n (t ++ drop n (replicate most 0))) ≡ n
+  front_length : length (take n (t ++ drop n (replicate most 0))) ≡ n
   front_length = ap length front-is ∙ as_long
 
   pub front-counted : n ≡ length (take n (t ++ drop n (replicate most 0)))
   front-counted = sym front_length
 
 -- the number of blocks is not refused, so it fits
-pub blocks-fit : (B k : ℕ) {blocks : ℕ} → bad_limits B k ≡ false → blocks ≡ k → blocks ≤ max_blocks
-blocks-fit B k good e = omega (arith, (limits-not B k good).3)
+pub blocks-fit : (B k : ℕ) → bad_limits B k ≡ false → k ≤ max_blocks
+blocks-fit B k good = (limits-not B k good).3
 
 -- the tables of growing, by the edges that the code has counted
 module _ {o xs : List ℕ} (r : Runnable o xs) where
@@ -81,20 +81,20 @@ module _ {o ranks : List ℕ} {B k : ℕ} {of : Net} (g : Ready o ranks B k of) 
   pub sum_fits : length o + m ≤ vertex_capacity + edge_capacity
   sum_fits = omega (arith, g.vertices, edges_fit)
 
-  pub report-room : {blocks : ℕ} → blocks ≡ k
-      → ReportRoom (length o) (length (edges ranks)) k
+  pub report-room :
+      ReportRoom (length o) (length (edges ranks)) k
       (lent
-      (written (division_of (part vertex_capacity (length o)) (part vertex_capacity (length o)) (part vertex_capacity (length o)) (part max_blocks blocks)) (part edge_capacity m)
+      (written (division_of (part vertex_capacity (length o)) (part vertex_capacity (length o)) (part vertex_capacity (length o)) (part max_blocks k)) (part edge_capacity m)
       (part vertex_capacity (length o)) (part vertex_capacity (length o)) (part vertex_capacity (length o)))
       (net (part vertex_capacity (length o)) (part vertex_capacity (length o)))
       (work_of (part vertex_capacity (length o)) (part vertex_capacity (length o)) (part (vertex_capacity + edge_capacity) (length o + m))))
-  report-room {blocks} is =
+  report-room =
       let v = part_length vertex_capacity (length o) g.vertices in
       record {
         carried = v;
         top = v;
         block = v;
-        loads = part_length max_blocks blocks (blocks-fit B k g.limits is) ∙ is;
+        loads = part_length max_blocks k (blocks-fit B k g.limits);
         edge_blocks = part_length edge_capacity m edges_fit ∙ counted;
         reach = v;
         block_count = v;

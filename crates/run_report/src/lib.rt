@@ -11,8 +11,9 @@ ghost use Rattle.refusal.specs.DivisionLimits.{bad_limits};
 ghost use Rattle.relabel.specs.Relabel.{relabelled};
 ghost use Rattle.run_report.specs.Steps.{Runnable, GrowRoom, RankedNet, Ready, net_text, text_room};
 
+use divide::tables::Division;
 use files::{EDGE_NUMBERS, EDGES, VERTICES};
-use table::wide;
+use report_write::tables::Figures;
 
 // The most blocks of a division.
 const BLOCKS: usize = refusal::MAX_BLOCKS as usize;
@@ -20,7 +21,7 @@ const BLOCKS: usize = refusal::MAX_BLOCKS as usize;
 // Vertices and edges together.
 const BOTH: usize = VERTICES + EDGES;
 
-// Relabels the edges by the order, and grows their net.
+// Relabels the edges by the order, and grows their net. No call is refused here, so their answers are not looked at.
 fn grow_ranked(
     order: &[u32],
     edges: &[u32],
@@ -38,9 +39,9 @@ fn grow_ranked(
     let mut ends = [0u32; VERTICES];
     let mut jump = [0u32; VERTICES];
     let mut lower = [0u32; BOTH];
-    relabel::relabel(order, edges, ranked, &mut inverse[..n]);
-    forest::start(parents, weights);
-    forest::add(
+    let _ = relabel::relabel(order, edges, ranked, &mut inverse[..n]);
+    let _ = forest::start(parents, weights);
+    let _ = forest::add(
         parents,
         weights,
         ranked,
@@ -67,7 +68,7 @@ fn report_on(
     let n = order.len();
     let m = edge::count(ranked);
     let both = n + m;
-    let k = wide(blocks);
+    let k = blocks as usize;
     let mut carried = [0u32; VERTICES];
     let mut top = [0u32; VERTICES];
     let mut block = [0u32; VERTICES];
@@ -81,35 +82,47 @@ fn report_on(
     let mut ends = [0u32; VERTICES];
     let mut jump = [0u32; VERTICES];
     let mut lower = [0u32; BOTH];
+    let mut division = Division {
+        carried: &mut carried[..n],
+        top: &mut top[..n],
+        block: &mut block[..n],
+        loads: &mut block_loads[..k],
+    };
+    let mut figures = Figures {
+        edge_blocks: &mut edge_blocks[..m],
+        reach: &mut reach[..n],
+        block_count: &mut block_count[..n],
+        edges_taken: &mut edges_taken[..n],
+    };
     let answer = report::report(
         parents,
         weights,
         limit,
         blocks,
         ranked,
-        &mut carried[..n],
-        &mut top[..n],
-        &mut block[..n],
-        &mut block_loads[..k],
-        &mut edge_blocks[..m],
-        &mut reach[..n],
-        &mut block_count[..n],
-        &mut edges_taken[..n],
+        &mut division,
+        &mut figures,
         &mut compared_parents[..n],
         &mut compared_weights[..n],
         &mut ends[..n],
         &mut jump[..n],
         &mut lower[..both],
     );
+    let Division { top, block, .. } = division;
+    let Figures {
+        reach,
+        block_count,
+        ..
+    } = figures;
     lines::put_answer(
         answer,
         order,
         parents,
         weights,
-        &reach[..n],
-        &top[..n],
-        &block[..n],
-        &block_count[..n],
+        reach,
+        top,
+        block,
+        block_count,
         text,
     )
 }

@@ -1,7 +1,6 @@
 -- Laws of what lies between two vertices, by subject. Nothing here needs to be believed: it is all proved.
 pub mod Outcome
 pub mod Own
-pub mod Ranks
 pub mod Refused
 pub mod Roots
 pub mod Separation

@@ -6,13 +6,19 @@ use mathlib.Core.List.{List, [], ◌∷◌}
 use Prim.Native.Nat.{ℕ}
 use native.Mathlib.Omega.{arith}
 use lib.ListN.{length}
+use Rattle.std.specs.Prelude.{Result}
+use Rattle.std.specs.Result.{IsErrAnd}
+use Rattle.std.proofs.lemmas.Result.{err_from_is_err_and}
 use Rattle.game.specs.Edge.{ties}
 use Rattle.game.specs.Net.{Net, net_of}
+use Rattle.refusal.specs.Numbers.{number_of, verdict}
+use Rattle.refusal.specs.declared.kinds.Refusal.{Refusal}
 use Rattle.refusal.specs.Refusal.{given, first, unless}
 use Rattle.refusal.specs.Verdict.{Verdict, refused, judged}
 use Rattle.refusal.specs.Outcome.{Outcome, ended}
 use Rattle.refusal.proofs.First.{first-pass, first-stop, first-last, unless-refused, unless-accepted}
 use Rattle.refusal.proofs.Ends.{judged-refused}
+use Rattle.refusal.proofs.Numbers.{number-positive}
 use Rattle.growth.specs.Work.{Work, cleared}
 use Rattle.compare.specs.Compare.{unlike}
 use Rattle.compare.proofs.Unlike.{same-passes, found-own, found-other}
@@ -32,7 +38,7 @@ module _ (of : Net) (a b : ℕ) (xs : List ℕ) (was : SeparateTables) where
   late = grown_refusal of a b (ties xs)
 
   -- refused by reading alone: the number, and every table as it was
-  pub ends-early : {code : ℕ} {wrong : Bool} → code ≡ separate_early of a b xs wrong → wrong ≡ wrong_separate of xs was → (code ≡ 0 → ⊥)
+  ends-early : {code : ℕ} {wrong : Bool} → code ≡ separate_early of a b xs wrong → wrong ≡ wrong_separate of xs was → (code ≡ 0 → ⊥)
       → ended (refused code) was ≡ separate_outcome of a b xs was
   unfolding separate_outcome separate_refusal early late
   ends-early {code} e w h = ap₂ ended (sym number) (sym (unless-refused early was _ some))
@@ -47,6 +53,12 @@ module _ (of : Net) (a b : ℕ) (xs : List ℕ) (was : SeparateTables) where
       number =
           ap (λ (m : ℕ). judged m (separator_of (common_ancestors of.parents a b))) (first-stop early (late ∷ []) some)
           ∙ judged-refused early _ some ∙ ap refused (sym is)
+
+  -- where a `?` hands it on
+  pub ends-handed-early : (r : Result Separator Refusal) (e : Refusal) {wrong : Bool} → IsErrAnd r (λ y. y ≡ e) → number_of e ≡ separate_early of a b xs wrong → wrong ≡ wrong_separate of xs was
+      → ended (verdict r) was ≡ separate_outcome of a b xs was
+  unfolding verdict
+  ends-handed-early r e q h w = let p = err_from_is_err_and r q in rw p.1 (ends-early (ap number_of p.2 ∙ h) w (number-positive _))
 
   module _ (z : separate_early of a b xs (wrong_separate of xs was) ≡ 0) where
     passed : first (early ∷ late ∷ []) ≡ late

@@ -21,7 +21,7 @@ use Rattle.refusal.proofs.First.{first-none, given-none}
 use Rattle.refusal.proofs.Fault.{list-proper}
 use Rattle.refusal.proofs.Ends.{accepted-none, accepted-values}
 use Rattle.compare.proofs.Unlike.{passed-forest}
-use Rattle.ancestry.specs.declared.Lowest.TheVariants.{Vertex, Nothing}
+use Rattle.std.specs.Prelude.{None, Some}
 use Rattle.ancestry.specs.declared.Separator.{Separator}
 use Rattle.ancestry.specs.Common.{common_ancestors, related, at_front}
 use Rattle.ancestry.specs.Answer.{lowest_of, separator_of}
@@ -45,19 +45,19 @@ rising-entries r i h = rw add-one (next r i (rw add-one at h))
     next (more l (more k r)) zero h = k
     next (more l (more k r)) (suc i) h = next (more k r) i (omega arith)
 
-lowest-first : (ys : List ℕ) (y : ℕ) → lowest_of ys ≡ Vertex y → (0 < length ys) × (get_or ys 0 0 ≡ y)
+lowest-first : (ys : List ℕ) (y : ℕ) → lowest_of ys ≡ Some y → (0 < length ys) × (get_or ys 0 0 ≡ y)
 unfolding lowest_of
 lowest-first [] y e = let z : ◌≡◌ {A = ℕ} 0 1 = cc in absurd (omega arith)
 lowest-first (x ∷ ys) y e = (omega arith, cc)
 
-lowest-nothing : (ys : List ℕ) → lowest_of ys ≡ Nothing → ys ≡ []
+lowest-empty : (ys : List ℕ) → lowest_of ys ≡ None → ys ≡ []
 unfolding lowest_of
-lowest-nothing [] e = refl
-lowest-nothing (x ∷ ys) e = let z : ◌≡◌ {A = ℕ} 0 1 = cc in absurd (omega arith)
+lowest-empty [] e = refl
+lowest-empty (x ∷ ys) e = let z : ◌≡◌ {A = ℕ} 0 1 = cc in absurd (omega arith)
 
-nothing-lowest : {ys : List ℕ} → ys ≡ [] → lowest_of ys ≡ Nothing
+empty-lowest : {ys : List ℕ} → ys ≡ [] → lowest_of ys ≡ None
 unfolding lowest_of
-nothing-lowest e = rw e
+empty-lowest e = rw e
 
 -- a list without a member is empty
 empty-list : (ys : List ℕ) → ((y : ℕ) → Memᴰ y ys → ⊥) → ys ≡ []
@@ -76,9 +76,9 @@ module _ {n : ℕ} {es : List Edge} (w : Walkable (forest n es)) (u : n ≤ abse
         all = λ y m k. both-common (forest n es) a b m k;
         lowest_first = rising-entries (common-rising w a b);
         lowest_listed = lowest-first (common_ancestors (forest n es) a b);
-        none_listed = lowest-nothing (common_ancestors (forest n es) a b);
-        apart_none = λ d. nothing-lowest (empty-list (common_ancestors (forest n es) a b) (λ y m. d (one y m)));
-        none_apart = λ e r. none (lowest-nothing (common_ancestors (forest n es) a b) e) (root (forest n es) a)
+        none_listed = lowest-empty (common_ancestors (forest n es) a b);
+        apart_none = λ d. empty-lowest (empty-list (common_ancestors (forest n es) a b) (λ y m. d (one y m)));
+        none_apart = λ e r. none (lowest-empty (common_ancestors (forest n es) a b) e) (root (forest n es) a)
             (climbs-common w a b apart (root-climbs (walkable-sound w) (walkable-few w) a) (rw (← r) at (root-climbs (walkable-sound w) (walkable-few w) b)));
         passes = passing;
         no_walk = λ e vs k. none e (passing vs k).0 (passing vs k).2;

@@ -1,6 +1,6 @@
 -- What lies between vertices of document 01's whole case, and of its net P5, two trees: computed from the definitions as one table.
 -- Assumes nothing.
-use Rattle.std.specs.Prelude.{◌≡◌, refl, List, [], ◌∷◌, ℕ, replicate}
+use Rattle.std.specs.Prelude.{◌≡◌, refl, List, [], ◌∷◌, ℕ, None, Some, replicate}
 use Rattle.game.specs.Table.{tabulate, sum, member, filtered}
 use Rattle.game.specs.Edge.{ties, edges}
 use Rattle.game.specs.Game.{absent, forest}
@@ -15,7 +15,6 @@ use Rattle.growth.specs.Work.{work_of, bad_work, zeros, cleared}
 use Rattle.compare.specs.Likeness.{same_table, same_net}
 use Rattle.compare.specs.Compare.{wrong_compared, unlike}
 use Rattle.game.specs.Case.{whole, own, other, others}
-use Rattle.ancestry.specs.declared.Lowest.TheVariants.{Vertex, Nothing}
 use Rattle.ancestry.specs.declared.Separator.{Separator}
 use Rattle.ancestry.specs.Common.{common_ancestors, related, at_front}
 use Rattle.ancestry.specs.Answer.{separator, lowest_of, separator_of}
@@ -55,9 +54,9 @@ computed =
 
 pub printed : List (Outcome Separator SeparateTables)
 printed =
-    ended (accepted (separator 2 (Vertex 4))) (left 6 12 (4 ∷ 5 ∷ 7 ∷ 7 ∷ 7 ∷ 7 ∷ []) whole)
-    ∷ ended (accepted (separator 2 (Vertex 4))) (left 6 12 (4 ∷ 5 ∷ 7 ∷ 7 ∷ 7 ∷ 7 ∷ []) whole)
-    ∷ ended (accepted (separator 0 Nothing)) (left 3 4 (replicate 3 7) trees)
+    ended (accepted (separator 2 (Some 4))) (left 6 12 (4 ∷ 5 ∷ 7 ∷ 7 ∷ 7 ∷ 7 ∷ []) whole)
+    ∷ ended (accepted (separator 2 (Some 4))) (left 6 12 (4 ∷ 5 ∷ 7 ∷ 7 ∷ 7 ∷ 7 ∷ []) whole)
+    ∷ ended (accepted (separator 0 None)) (left 3 4 (replicate 3 7) trees)
     ∷ ended (refused 31) (left 6 12 (replicate 6 7) whole)
     ∷ ended (refused 31) (left 6 12 (replicate 6 7) whole)
     ∷ ended (refused 31) (left 6 12 (replicate 6 7) whole)

@@ -7,12 +7,13 @@ mod refusals;
 
 ghost use Rattle.std.specs.Prelude.{◌≡◌};
 ghost use Rattle.game.specs.Net.{net};
+ghost use Rattle.refusal.specs.Numbers.{verdict};
 ghost use Rattle.refusal.specs.Outcome.{ended};
 ghost use Rattle.growth.specs.Work.{work_of};
-ghost use Rattle.ancestry.specs.Answer.{verdict};
 ghost use Rattle.separate.specs.Separate.{separate_tables, separate_outcome};
 
-use ancestry::SeparatorAnswer;
+use ancestry::Separator;
+use refusal::Refusal;
 
 // Lists the vertices above both of two vertices at the front of a table, lowest first, given the net's own edges, and answers how many these
 // are and the lowest. The comparison tables end holding the net of the edges. The work tables take n, n and n + m entries for n vertices and
@@ -29,7 +30,7 @@ pub fn separate(
     ends: &mut [u32],
     jump: &mut [u32],
     lower: &mut [u32],
-) -> SeparatorAnswer
+) -> Result<Separator, Refusal>
     ensures { ended (verdict result)
         (separate_tables separator.new (net compared_parents.new compared_weights.new) (work_of ends.new jump.new lower.new))
         ≡ separate_outcome (net parents.now weights.now) one other edges.now
@@ -48,10 +49,7 @@ pub fn separate(
             lower.len(),
         )
         | refusal::not_whole(edges);
-    let code = refusals::separate_early(parents, weights, one, other, edges, wrong);
-    if code != 0 {
-        return SeparatorAnswer::Refused(code);
-    }
+    refusals::separate_early(parents, weights, one, other, edges, wrong)?;
     if !compare::is_own(
         parents,
         weights,
@@ -62,7 +60,7 @@ pub fn separate(
         jump,
         lower,
     ) {
-        return SeparatorAnswer::Refused(23);
+        return Err(Refusal::OtherEdges);
     }
     ancestry::list_common(parents, one, other, separator)
 }

@@ -1,3 +1,2 @@
 -- Laws of the even share. Nothing here needs to be believed: it is all proved.
 pub mod Even
-pub mod Wide

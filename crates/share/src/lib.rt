@@ -6,8 +6,6 @@ ghost use Rattle.game.specs.Table.{sum};
 ghost use Rattle.refusal.specs.Limits.{max_vertices, max_total};
 ghost use Rattle.share.specs.Share.{even_share, check_sum};
 
-use table::{amount, narrow};
-
 // What each block gets, and what is left over; with the number of blocks, so that it can be summed up again.
 #[derive(Clone, Copy)]
 pub struct Share {
@@ -44,7 +42,7 @@ impl Share {
     pub fn check_sum(self) -> u64
         ensures { result ≡ check_sum self }
     {
-        amount(self.quotient) * amount(self.blocks) + amount(self.remainder)
+        u64::from(self.quotient) * u64::from(self.blocks) + u64::from(self.remainder)
     }
 }
 
@@ -54,5 +52,5 @@ pub fn even_share(block_loads: &[u32]) -> Share
     ensures { result ≡ even_share (sum block_loads.now) (length block_loads.now) }
 {
     let total = net::total(block_loads);
-    Share::of(total as u32, narrow(block_loads.len()))
+    Share::of(total as u32, block_loads.len() as u32)
 }

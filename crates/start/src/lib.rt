@@ -3,36 +3,34 @@
 
 ghost use Rattle.std.specs.Prelude.{◌≡◌};
 ghost use Rattle.game.specs.Net.{net};
-ghost use Rattle.refusal.specs.Answer.{verdict};
+ghost use Rattle.refusal.specs.Numbers.{code, verdict};
 ghost use Rattle.refusal.specs.Outcome.{ended};
 ghost use Rattle.start.specs.Start.{start_refusal, start_outcome};
 
 use net::Net;
-use refusal::Answer;
+use refusal::Refusal;
 
-// The number for which starting is refused, or 0.
-fn start_refusal(parents: &[u32], weights: &[u32]) -> u32
-    ensures { result ≡ start_refusal (net parents.now weights.now) }
+// What starting is refused for.
+#[tactic(auto, using(crate::proofs::Chain::early_returns), unfolding(crate::specs::Start::start_refusal))]
+fn start_refusal(parents: &[u32], weights: &[u32]) -> Result<(), Refusal>
+    ensures { code result ≡ start_refusal (net parents.now weights.now) }
 {
     let n = parents.len();
     if refusal::bad_count(n) {
-        return 1;
+        return Err(Refusal::BadCount);
     }
     if weights.len() != n {
-        return 2;
+        return Err(Refusal::WrongLength);
     }
-    0
+    Ok(())
 }
 
 // Starts a net with no edge, whatever the tables held: no vertex has a parent, and every weight is 0.
-pub fn start(parents: &mut [u32], weights: &mut [u32]) -> Answer
+pub fn start(parents: &mut [u32], weights: &mut [u32]) -> Result<(), Refusal>
     ensures { ended (verdict result) (net parents.new weights.new) ≡ start_outcome (net parents.old weights.old) }
 {
-    let code = start_refusal(parents, weights);
-    if code != 0 {
-        return Answer::Refused(code);
-    }
-    table::fill(parents, Net::ABSENT);
-    table::fill(weights, 0);
-    Answer::Accepted
+    start_refusal(parents, weights)?;
+    parents.fill(Net::ABSENT);
+    weights.fill(0);
+    Ok(())
 }

@@ -1,4 +1,3 @@
 pub mod Filling
-pub mod Copying
 pub mod Summed
 pub mod Zipped

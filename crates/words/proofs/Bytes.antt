@@ -1,13 +1,15 @@
 -- Words and their bytes: each gives the other back, and a loop reads words off four bytes at a time.
 -- Assumes nothing.
-use mathlib.Core.Path.{◌≡◌, refl, sym, ap, ap₂, ◌∙◌}
+use mathlib.Core.Path.{◌≡◌, refl, ap₂, ◌∙◌}
 use mathlib.Core.List.{List, [], ◌∷◌, ◌++◌}
 use Prim.Native.Nat.{ℕ, zero, suc, ◌+◌, ◌*◌, ◌/◌, ◌%◌, ◌^◌, ◌≤◌, ◌<◌, suc-le-suc}
-use native.Mathlib.Nat.{div-add-mod, div-div-eq-div-mul, mod-eq_of_lt, div-eq_of_lt, add-mul-div_left, add-mul-mod_self_left, zero-add, zero-lt-suc, le_of_suc-le-suc}
+use native.Mathlib.Nat.{zero-lt-suc, le_of_suc-le-suc}
 use native.Mathlib.Numerals.{add-one, add-two, add-three, add-four}
 use native.Mathlib.Omega.{arith}
 use lib.ListN.{length, get_or, drop, length-drop}
 use lib.Seq.{drop-cons}
+use Rattle.std.specs.Int.{w32, from_le_bytes, to_le_bytes}
+use Rattle.std.proofs.lemmas.Nat.{from_le_bytes-to_le_bytes_4, le_bytes_4}
 use Rattle.game.specs.Table.{Below}
 use Rattle.words.specs.Word.{word_bytes, word_of, word_at, bytes_of, words}
 
@@ -27,38 +29,29 @@ below-cons {m} {x} {xs} h b = record { each = at }
     at zero l = h
     at (suc i) l = b.each i (le_of_suc-le-suc l)
 
--- what is above two bytes and above three, a byte at a time
-above-two : (n : ℕ) → n / 65536 ≡ n / 256 / 256
-above-two n = sym (div-div-eq-div-mul n 256 256)
+-- the standard library's word of four bytes and its bytes of a word are document 01's
+pub word_of-le : (a b c d : ℕ) → word_of a b c d ≡ from_le_bytes w32 (a ∷ b ∷ c ∷ d ∷ [])
+unfolding word_of
+word_of-le a b c d = omega arith
 
-above-three : (n : ℕ) → n / 16777216 ≡ n / 65536 / 256
-above-three n = sym (div-div-eq-div-mul n 65536 256)
+pub word_bytes-le : (n : ℕ) → word_bytes n ≡ to_le_bytes w32 n
+unfolding word_bytes
+word_bytes-le n = refl
 
 -- the word of a word's bytes is the word
 pub word-of-bytes : (n : ℕ) → n < 2 ^ 32 → word_of (n % 256) (n / 256 % 256) (n / 65536 % 256) (n / 16777216 % 256) ≡ n
-unfolding word_of
-word-of-bytes n h =
-    join _ _ _ _ _ _ _ _ (div-add-mod n 256)
-    (ap (λ (q : ℕ). 256 * q + n / 256 % 256) (above-two n) ∙ div-add-mod (n / 256) 256)
-    (ap (λ (q : ℕ). 256 * q + n / 65536 % 256) (above-three n) ∙ div-add-mod (n / 65536) 256)
-    (mod-eq_of_lt (omega arith))
-  where
-    join : (m q₁ q₂ q₃ a b c d : ℕ) → 256 * q₁ + a ≡ m → 256 * q₂ + b ≡ q₁ → 256 * q₃ + c ≡ q₂ → d ≡ q₃ → a + 256 * b + 65536 * c + 16777216 * d ≡ m
-    join m q₁ q₂ q₃ a b c d e₀ e₁ e₂ e₃ = omega arith
-
--- the lowest byte of a number, and what is above it
-lowest : (a q : ℕ) → a < 256 → (a + 256 * q) % 256 ≡ a
-lowest a q h = add-mul-mod_self_left a 256 q ∙ mod-eq_of_lt h
-
-above : (a q : ℕ) → a < 256 → (a + 256 * q) / 256 ≡ q
-above a q h = add-mul-div_left a q (zero-lt-suc 255) ∙ ap (λ (k : ℕ). k + q) (div-eq_of_lt h) ∙ zero-add q
+word-of-bytes n h = word_of-le _ _ _ _ ∙ from_le_bytes-to_le_bytes_4 n h
 
 -- the bytes of the word of four bytes are the four bytes
 pub bytes-of-word : (a b c d : ℕ) → a < 256 → b < 256 → c < 256 → d < 256 → word_bytes (word_of a b c d) ≡ a ∷ b ∷ c ∷ d ∷ []
-unfolding word_bytes word_of
-bytes-of-word a b c d ha hb hc hd =
-    let e : a + 256 * b + 65536 * c + 16777216 * d ≡ a + 256 * (b + 256 * (c + 256 * d)) = omega arith in
-    rw (e, above-three, above-two, lowest a (b + 256 * (c + 256 * d)) ha, above a (b + 256 * (c + 256 * d)) ha, lowest b (c + 256 * d) hb, above b (c + 256 * d) hb, lowest c d hc, above c d hc, mod-eq_of_lt hd)
+bytes-of-word a b c d ha hb hc hd = word_bytes-le _ ∙ le_bytes_4 (a ∷ b ∷ c ∷ d ∷ []) _ refl each (word_of-le a b c d)
+  where
+    each : (i : ℕ) → get_or (a ∷ b ∷ c ∷ d ∷ []) i 0 < 256
+    each zero = ha
+    each (suc zero) = hb
+    each (suc (suc zero)) = hc
+    each (suc (suc (suc zero))) = hd
+    each (suc (suc (suc (suc i)))) = omega arith
 
 -- words come back from their bytes
 pub words-of-bytes : (xs : List ℕ) → Below (2 ^ 32) xs → words (bytes_of xs) ≡ xs

@@ -4,20 +4,9 @@ use mathlib.Core.Path.{◌≡◌}
 use mathlib.Core.List.{List, [], ◌∷◌, ◌++◌}
 use Prim.Native.Nat.{ℕ, suc, ◌+◌, ◌≤◌}
 use native.Mathlib.Nat.{add-zero, add-suc, suc-add}
-use native.Mathlib.Numerals.{add-one, add-two, add-three}
 use native.Mathlib.Omega.{arith}
-use lib.ListN.{length, get_or, take, drop, set, length-append}
+use lib.ListN.{length, take, drop, set, length-append}
 use lib.Seq.{sets, sets-eq, take_at, length-take-le}
-
--- four stores one after the other are a run of stores
-pub stores-four : (xs four : List ℕ) (i : ℕ) → length four ≡ 4
-    → set (set (set (set xs i (get_or four 0 0)) (i + 1) (get_or four 1 0)) (i + 2) (get_or four 2 0)) (i + 3) (get_or four 3 0) ≡ sets xs i four
-stores-four xs [] i h = absurd (omega arith)
-stores-four xs (a ∷ []) i h = absurd (omega arith)
-stores-four xs (a ∷ b ∷ []) i h = absurd (omega arith)
-stores-four xs (a ∷ b ∷ c ∷ []) i h = absurd (omega arith)
-stores-four xs (a ∷ b ∷ c ∷ d ∷ []) i h = rw (add-one, add-two, add-three)
-stores-four xs (a ∷ b ∷ c ∷ d ∷ e ∷ four) i h = absurd (omega arith)
 
 -- a run that begins where one ended
 pub stores-append : (xs vs ws : List ℕ) (i : ℕ) → sets (sets xs i vs) (i + length vs) ws ≡ sets xs i (vs ++ ws)

@@ -1,5 +1,5 @@
 use Rattle.ancestry.proofs.Listed.{lists-not, lists}
-use Rattle.ancestry.specs.Answer.{verdict}
+use Rattle.refusal.specs.Numbers.{verdict}
 use Rattle.ancestry.proofs.list_common.Goals as goal
 
 pub returns-then-meet-one : goal.returns-then-meet-one

@@ -1,13 +1,9 @@
-use native.Mathlib.Omega.{arith}
 use mathlib.Core.Path.{refl, ◌∙◌}
 use Rattle.block_count.proofs.Written.{count-ready, sweep-ready, all-written}
 use Rattle.block_count.proofs.write_block_counts.Goals as goal
 
-pub slice_bounds-count_buckets-count : goal.slice_bounds-count_buckets-count
-slice_bounds-count_buckets-count c = omega arith
-
 pub count_buckets-requires : goal.count_buckets-requires
-count_buckets-requires c = count-ready c.requires c.wide.ensures refl
+count_buckets-requires c = count-ready c.requires refl
 
 pub settle-requires : goal.settle-requires
 settle-requires c =

@@ -1,8 +1,9 @@
-use Rattle.cells.proofs.Handed.{rank-accepted, rank-refused}
+use Rattle.moved.specs.Moved.{moved_rank}
+use Rattle.cells.proofs.Handed.{cells-accepted, cells-refused}
 use Rattle.cells.proofs.hand_rank.Goals as goal
 
-pub returns-in-Accepted : goal.returns-in-Accepted
-returns-in-Accepted c = rank-accepted _ c.in-Accepted.is c.moved_rank.ensures
+pub returns-in-Err : goal.returns-in-Err
+returns-in-Err c = cells-refused moved_rank _ c.in-Err.is c.number.ensures
 
-pub returns-in-Refused : goal.returns-in-Refused
-returns-in-Refused c = rank-refused _ c.in-Refused.is
+pub returns : goal.returns
+returns c = cells-accepted moved_rank _ c.in-Ok.is c.moved_rank.ensures

@@ -1,8 +1,12 @@
-use Rattle.cells.proofs.Handed.{separator-accepted, separator-refused}
+use mathlib.Core.Path.{ap}
+use Rattle.cells.specs.Returned.{separator_cells, separator_cells_of}
+use Rattle.cells.proofs.Handed.{cells-accepted, cells-refused}
 use Rattle.cells.proofs.hand_separator.Goals as goal
 
-pub returns-in-Accepted : goal.returns-in-Accepted
-returns-in-Accepted c = separator-accepted _ c.in-Accepted.is c.lowest_rank.ensures
+pub returns-in-Ok : goal.returns-in-Ok
+unfolding separator_cells_of
+returns-in-Ok c =
+    cells-accepted separator_cells_of _ c.in-Ok.is (ap (separator_cells _) c.lowest_rank.ensures)
 
-pub returns-in-Refused : goal.returns-in-Refused
-returns-in-Refused c = separator-refused _ c.in-Refused.is
+pub returns-in-Err : goal.returns-in-Err
+returns-in-Err c = cells-refused separator_cells_of _ c.in-Err.is c.number.ensures

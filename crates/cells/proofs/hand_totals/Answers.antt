@@ -1,8 +1,12 @@
-use Rattle.cells.proofs.Handed.{totals-accepted, totals-refused}
+use mathlib.Core.Path.{ap₂}
+use Rattle.cells.specs.Returned.{cells, cells_of}
+use Rattle.cells.proofs.Handed.{cells-accepted, cells-refused}
 use Rattle.cells.proofs.hand_totals.Goals as goal
 
-pub returns-in-Accepted : goal.returns-in-Accepted
-returns-in-Accepted c = totals-accepted _ c.in-Accepted.is c.quotient.ensures c.remainder.ensures
+pub returns-in-Ok : goal.returns-in-Ok
+unfolding cells_of
+returns-in-Ok c =
+    cells-accepted cells_of _ c.in-Ok.is (ap₂ (cells _ _) c.quotient.ensures c.remainder.ensures)
 
-pub returns-in-Refused : goal.returns-in-Refused
-returns-in-Refused c = totals-refused _ c.in-Refused.is
+pub returns-in-Err : goal.returns-in-Err
+returns-in-Err c = cells-refused cells_of _ c.in-Err.is c.number.ensures

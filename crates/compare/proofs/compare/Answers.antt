@@ -1,15 +1,11 @@
 use mathlib.Core.Path.{refl, ◌∙◌}
 use native.Mathlib.Omega.{arith}
 use Rattle.growth.proofs.Rooms.{same-room}
-use Rattle.compare.proofs.Compared.{tables-fit, compared_same, compared-other}
+use Rattle.compare.proofs.Compared.{compared_same, compared-other}
 use Rattle.compare.proofs.compare.Goals as goal
 
 pub grow_net-requires : goal.grow_net-requires
 grow_net-requires c = c.requires.growable
-
-pub same_net-requires : goal.same_net-requires
-same_net-requires c =
-    tables-fit c.requires c.grow_net.ensures
 
 pub returns-then-same_net : goal.returns-then-same_net
 returns-then-same_net c =

@@ -9,6 +9,6 @@ assign-requires c =
       packable = tops-packable c.requires.divisible c.group.ensures (c.group.auto.next ∙ c.requires.fitting.block) c.requires.fitting.some c.requires.fitting.few;
     }
 
-pub returns : goal.returns
-returns c =
+pub returns-clause-outcome : goal.returns-clause-outcome
+returns-clause-outcome c =
     all-divided c.requires.divisible c.group.ensures c.assign.ensures c.assign.auto.loads

@@ -1,7 +1,7 @@
 use native.Mathlib.Omega.{arith}
 use mathlib.Core.Path.{sym, ◌∙◌}
 use Rattle.refusal.proofs.First.{good-count}
-use Rattle.divide.proofs.Refused.{first-sized, tables-as, damaged-as, refused-count, refused-tables, refused-limits, refused-damaged, refused-heavy, refused-not}
+use Rattle.divide.proofs.Refused.{tables-not, tables-as, damaged-as, refused-count, refused-tables, refused-limits, refused-damaged, refused-heavy, refused-not}
 use Rattle.divide.proofs.divide_refusal.Goals as goal
 
 pub returns-then-bad_count : goal.returns-then-bad_count
@@ -10,19 +10,19 @@ returns-then-bad_count c =
     (refused-count _ _ _ _
     (sym c.bad_count.ensures ∙ c.if-bad_count.true))
 
-pub returns-then-wrong_tables : goal.returns-then-wrong_tables
-returns-then-wrong_tables c =
+pub returns-then-weights-n : goal.returns-then-weights-n
+returns-then-weights-n c =
     sym
     (refused-tables _ _ _ _
     (sym c.bad_count.ensures ∙ c.if-bad_count.false)
-    (tables-as _ _ _ c.wide.ensures c.wrong_tables.ensures ∙ c.if-wrong_tables.true))
+    (tables-as _ _ _ c.is_wrong.ensures ∙ c.if-weights-n.true))
 
 pub returns-then-bad_limits : goal.returns-then-bad_limits
 returns-then-bad_limits c =
     sym
     (refused-limits _ _ _ _
     (sym c.bad_count.ensures ∙ c.if-bad_count.false)
-    (tables-as _ _ _ c.wide.ensures c.wrong_tables.ensures ∙ c.if-wrong_tables.false)
+    (tables-as _ _ _ c.is_wrong.ensures ∙ c.if-weights-n.false)
     (sym c.bad_limits.ensures ∙ c.if-bad_limits.true))
 
 pub of-requires : goal.of-requires
@@ -30,7 +30,7 @@ of-requires c =
     omega (
       arith,
       (good-count _ (sym c.bad_count.ensures ∙ c.if-bad_count.false)).1,
-      first-sized _ _ _ _ _ _ (sym c.wrong_tables.ensures ∙ c.if-wrong_tables.false),
+      (tables-not _ _ _ (tables-as _ _ _ c.is_wrong.ensures ∙ c.if-weights-n.false)).weights,
     )
 
 pub is_damaged-requires : goal.is_damaged-requires
@@ -42,7 +42,7 @@ returns-then-is_damaged c =
     sym
     (refused-damaged _ _ _ _
     (sym c.bad_count.ensures ∙ c.if-bad_count.false)
-    (tables-as _ _ _ c.wide.ensures c.wrong_tables.ensures ∙ c.if-wrong_tables.false)
+    (tables-as _ _ _ c.is_wrong.ensures ∙ c.if-weights-n.false)
     (sym c.bad_limits.ensures ∙ c.if-bad_limits.false)
     (damaged-as _ _ c.of.ensures c.is_damaged.ensures ∙ c.if-is_damaged.true))
 
@@ -51,7 +51,7 @@ returns-then-too_heavy c =
     sym
     (refused-heavy _ _ _ _
     (sym c.bad_count.ensures ∙ c.if-bad_count.false)
-    (tables-as _ _ _ c.wide.ensures c.wrong_tables.ensures ∙ c.if-wrong_tables.false)
+    (tables-as _ _ _ c.is_wrong.ensures ∙ c.if-weights-n.false)
     (sym c.bad_limits.ensures ∙ c.if-bad_limits.false)
     (damaged-as _ _ c.of.ensures c.is_damaged.ensures ∙ c.if-is_damaged.false)
     (sym c.too_heavy.ensures ∙ c.if-too_heavy.true))
@@ -61,7 +61,7 @@ returns c =
     sym
     (refused-not _ _ _ _
     (sym c.bad_count.ensures ∙ c.if-bad_count.false)
-    (tables-as _ _ _ c.wide.ensures c.wrong_tables.ensures ∙ c.if-wrong_tables.false)
+    (tables-as _ _ _ c.is_wrong.ensures ∙ c.if-weights-n.false)
     (sym c.bad_limits.ensures ∙ c.if-bad_limits.false)
     (damaged-as _ _ c.of.ensures c.is_damaged.ensures ∙ c.if-is_damaged.false)
     (sym c.too_heavy.ensures ∙ c.if-too_heavy.false))

@@ -4,7 +4,7 @@ use Prim.Native.Nat.{◌*◌}
 use native.Mathlib.Omega.{arith}
 use Rattle.game.specs.Edge.{ties}
 use Rattle.game.proofs.Edges.{edges-length}
-use Rattle.edge.proofs.Reading.{ties-behind, part-behind}
+use Rattle.edge.proofs.Splitting.{ties-behind, part-behind}
 use Rattle.edge.proofs.from.Goals as goal
 
 pub overflow_mul-result : goal.overflow_mul-result

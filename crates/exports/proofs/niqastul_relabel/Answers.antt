@@ -2,4 +2,4 @@ use Rattle.exports.proofs.Answered.{handed-as}
 use Rattle.exports.proofs.niqastul_relabel.Goals as goal
 
 pub returns : goal.returns
-returns c = handed-as c.code.ensures c.relabel.ensures
+returns c = handed-as c.number.ensures c.relabel.ensures

@@ -2,8 +2,9 @@ use mathlib.Core.Path.{◌≡◌, refl, sym, ap, ◌∙◌}
 use Prim.Native.Nat.{ℕ, suc}
 use native.Mathlib.Omega.{arith}
 use lib.ListN.{length, replicate, length-replicate}
-use Rattle.refusal.specs.Answer.{verdict}
-use Rattle.refusal.proofs.Ends.{ends-refused, ends-accepted}
+use Rattle.refusal.specs.Numbers.{verdict}
+use Rattle.refusal.proofs.Ends.{ends-accepted}
+use Rattle.refusal.proofs.Numbers.{ends-handed}
 use Rattle.index.specs.Index.{index as index_tables, vertices}
 use Rattle.index.specs.Build.{index_outcome}
 use Rattle.index.proofs.Laid.{sorted-index, lent_length, lent-clear, put_back}
@@ -21,17 +22,17 @@ accepted : (c : After-fill) → Accepted (index_tables c.args.starts.now
     c.args.neighbours.now)
     c.args.old.now
     c.args.added.now
-accepted c = index-accepted _ _ _ (sym c.index_refusal-code.ensures ∙ c.if-code-ne0.false)
+accepted c = index-accepted _ _ _ (sym c.in_ok-index_refusal.ensures)
 
-zeros : (c : After-fill) → c.fill.new.table ≡ replicate (suc (count c)) 0
-zeros c = rw (accepted c).one_more at c.fill.ensures
+zeros : (c : After-fill) → c.fill.new.self ≡ replicate (suc (count c)) 0
+zeros c = rw (accepted c).one_more at c.fill.ensures.after (λ y e. e)
 
-full : (c : After-fill) → length c.fill.new.table ≡ suc (count c)
+full : (c : After-fill) → length c.fill.new.self ≡ suc (count c)
 full c = ap length (zeros c) ∙ length-replicate _ _
 
-pub returns-then-code-ne0 : goal.returns-then-code-ne0
-unfolding verdict index_outcome
-returns-then-code-ne0 c = ends-refused _ _ _ _ c.index_refusal-code.ensures (λ z. c.if-code-ne0.true (c.index_refusal-code.ensures ∙ z)) refl
+pub returns-in_err-index_refusal : goal.returns-in_err-index_refusal
+unfolding index_outcome
+returns-in_err-index_refusal c = ends-handed _ _ _ _ _ _ c.from_residual.ensures.1 c.in_err-index_refusal.ensures refl
 
 pub slice_bounds-sort_arcs-count : goal.slice_bounds-sort_arcs-count
 slice_bounds-sort_arcs-count c = omega (arith, full (goal.at.slice_bounds-sort_arcs-count c).After-fill)
@@ -47,7 +48,7 @@ returns c =
     let a = accepted (goal.at.returns c).After-fill in
     let e = lent_length (count (goal.at.returns c).After-fill) (zeros (goal.at.returns c).After-fill) in
     let b = put_back (count (goal.at.returns c).After-fill) (zeros (goal.at.returns c).After-fill) c.sort_arcs.new.ends in
-    ends-accepted _ _ _ _ refl (sym c.index_refusal-code.ensures ∙ c.if-code-ne0.false)
+    ends-accepted _ _ _ _ refl (sym c.in_ok-index_refusal.ensures)
     (rw b (sorted-index a.lists.proper (c.sort_arcs.auto.neighbours ∙ a.lists.room) (rw e at c.sort_arcs.ensures)))
 
 pub slice_bounds-sort_arcs-start : goal.slice_bounds-sort_arcs-start

@@ -9,4 +9,4 @@ pub returns-then-parents-at : goal.returns-then-parents-at
 returns-then-parents-at c = sym (moved_same _ _ c.if-parents-at.true)
 
 pub returns : goal.returns
-returns c = c.smaller.ensures ∙ sym (moved_other _ _ c.if-parents-at.false)
+returns c = c.min.ensures ∙ sym (moved_other _ _ c.if-parents-at.false)

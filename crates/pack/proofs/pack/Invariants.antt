@@ -1,5 +1,4 @@
 use mathlib.Core.Path.{◌≡◌}
-use Prim.Native.Nat.{◌-◌}
 use lib.ListN.{length}
 use Rattle.pack.specs.Lightest.{lightest}
 use Rattle.pack.specs.TournamentSteps.{Tournament}
@@ -8,6 +7,3 @@ use Rattle.pack.proofs.pack.Given as goal
 
 abbrev pub invariant-loop-x : goal.invariant-loop-x
 invariant-loop-x l = Packs l.top l.carried (length l.initial.loads) l.x l.block l.loads × Tournament l.loads l.nodes × (l.best ≡ lightest l.loads)
-
-abbrev pub decreases-loop-x : goal.decreases-loop-x
-decreases-loop-x l = length l.top - l.x

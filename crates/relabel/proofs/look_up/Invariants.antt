@@ -1,12 +1,6 @@
-use Prim.Native.Nat.{◌*◌, ◌-◌}
-use Rattle.game.specs.Edge.{edges as edges_of}
-use Rattle.edge.proofs.Reading.{AtEdge}
-use Rattle.relabel.specs.Steps.{looked_up}
+use Rattle.edge.specs.Tie.{ties_left}
 use Rattle.relabel.proofs.Filled.{Filled}
 use Rattle.relabel.proofs.look_up.Given as goal
 
 abbrev pub invariant-loop-i : goal.invariant-loop-i
-invariant-loop-i l = AtEdge (edges_of l.edges) l.m l.i × Filled (looked_up l.ranks l.edges) l.out (3 * l.i)
-
-abbrev pub decreases-loop-i : goal.decreases-loop-i
-decreases-loop-i l = l.m - l.i
+invariant-loop-i l = Filled l.ranks l.edges l.out l.i-iterator.count (ties_left l.i-iterator.iter)

@@ -1,6 +1,7 @@
 use native.Mathlib.Omega.{arith}
 use mathlib.Core.Path.{sym, ◌∙◌}
 use Rattle.refusal.proofs.First.{pass, stop, first-pass, first-stop, first-end, good-count}
+use Rattle.refusal.proofs.Numbers.{number-positive, handed-on}
 use Rattle.growth.proofs.Tests.{damage}
 use Rattle.report_refusal.specs.Refused.{report_early}
 use Rattle.report_refusal.proofs.report_early.Goals as goal
@@ -43,16 +44,17 @@ returns-then-is_damaged c =
     ∙ pass _ _ (sym c.bad_limits.ensures ∙ c.if-bad_limits.false)
     ∙ stop _ _ (damage _ c.of.ensures (sym c.is_damaged.ensures ∙ c.if-is_damaged.true)))
 
-pub returns-then-list-ne0 : goal.returns-then-list-ne0
+pub returns-in_err-check_list : goal.returns-in_err-check_list
 unfolding report_early
-returns-then-list-ne0 c =
-    c.list_refusal-list.ensures
+returns-in_err-check_list c =
+    handed-on _ _ c.from_residual.ensures.1
+    (c.in_err-check_list.ensures
     ∙ sym
     (pass _ _ (sym c.bad_count.ensures ∙ c.if-bad_count.false)
     ∙ pass _ _ c.if-wrong.false
     ∙ pass _ _ (sym c.bad_limits.ensures ∙ c.if-bad_limits.false)
     ∙ pass _ _ (damage _ c.of.ensures (sym c.is_damaged.ensures ∙ c.if-is_damaged.false))
-    ∙ first-stop _ _ (λ z. c.if-list-ne0.true (c.list_refusal-list.ensures ∙ z)))
+    ∙ first-stop _ _ (λ z. number-positive _ (c.in_err-check_list.ensures ∙ z))))
 
 pub returns-then-too_heavy : goal.returns-then-too_heavy
 unfolding report_early
@@ -62,7 +64,7 @@ returns-then-too_heavy c =
     ∙ pass _ _ c.if-wrong.false
     ∙ pass _ _ (sym c.bad_limits.ensures ∙ c.if-bad_limits.false)
     ∙ pass _ _ (damage _ c.of.ensures (sym c.is_damaged.ensures ∙ c.if-is_damaged.false))
-    ∙ first-pass _ _ (sym c.list_refusal-list.ensures ∙ c.if-list-ne0.false)
+    ∙ first-pass _ _ (sym c.in_ok-check_list.ensures)
     ∙ stop _ _ (sym c.too_heavy.ensures ∙ c.if-too_heavy.true))
 
 pub returns : goal.returns
@@ -73,6 +75,6 @@ returns c =
     ∙ pass _ _ c.if-wrong.false
     ∙ pass _ _ (sym c.bad_limits.ensures ∙ c.if-bad_limits.false)
     ∙ pass _ _ (damage _ c.of.ensures (sym c.is_damaged.ensures ∙ c.if-is_damaged.false))
-    ∙ first-pass _ _ (sym c.list_refusal-list.ensures ∙ c.if-list-ne0.false)
+    ∙ first-pass _ _ (sym c.in_ok-check_list.ensures)
     ∙ pass _ _ (sym c.too_heavy.ensures ∙ c.if-too_heavy.false)
     ∙ first-end)

@@ -18,6 +18,6 @@ cut_and_pack-requires c =
       fitting = fitting-kept q.division k.ends k.ancestor k.previous;
     }
 
-pub returns : goal.returns
-returns c =
-    λ es q counted. record { divided_so = c.cut_and_pack.ensures; reached = c.reaches.ensures es (own-counts q counted) q.filed }
+pub returns-clause-outcome : goal.returns-clause-outcome
+returns-clause-outcome c =
+    λ es q counted. record { divided_so = c.cut_and_pack.ensures.outcome; reached = c.reaches.ensures es (own-counts q counted) q.filed }

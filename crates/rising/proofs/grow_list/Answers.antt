@@ -13,7 +13,7 @@ use Rattle.rising.proofs.grow_list.Goals as goal
 pub raise_list-moved-requires : goal.raise_list-moved-requires
 raise_list-moved-requires c =
     let g = c.requires in
-    (g.0, c.fill.ensures ∙ ap (λ (n : ℕ). replicate n absent) g.2)
+    (g.0, c.fill.ensures.after (λ y e. e) ∙ ap (λ (n : ℕ). replicate n absent) g.2)
 
 pub returns : goal.returns
 returns c =
@@ -21,6 +21,6 @@ returns c =
     let (raised, weighed, untouched, moves) = c.raise_list-moved.ensures in (
       new-whole (omega (arith, g.few)) (list-proper _ _ (rises-faultless g.rises)) refl c.raise_list-moved.auto.parents (links-blank _ blank) untouched raised,
       weighed,
-      c.clear.ensures ∙ same-room _ _ _ _ _ _ refl (c.raise_list-moved.auto.jump ∙ c.fill.auto.table) refl,
+      c.clear.ensures ∙ same-room _ _ _ _ _ _ refl (c.raise_list-moved.auto.jump ∙ c.fill.auto.self) refl,
       moves-differ moves,
     )

@@ -1,16 +1,9 @@
-use native.Mathlib.Omega.{arith}
-use lib.ListN.{length-set}
-use Rattle.words.proofs.Stores.{stores-four}
+use Rattle.std.proofs.Common.{append_assoc, ◌≡◌, ◌+◌, length, ◌-◌, arith}
+use Rattle.std.proofs.lemmas.List.Edits.{sets-eq}
+use Rattle.std.proofs.lemmas.List.{drop-drop}
 use Rattle.words.proofs.put_word.Goals as goal
 
-pub bounds-bytes-at-2 : goal.bounds-bytes-at-2
-bounds-bytes-at-2 c = simp length-set (omega arith)
-
-pub bounds-bytes-at-3 : goal.bounds-bytes-at-3
-bounds-bytes-at-3 c = simp length-set (omega arith)
-
-pub bounds-bytes-at-4 : goal.bounds-bytes-at-4
-bounds-bytes-at-4 c = simp length-set (omega arith)
-
 pub returns : goal.returns
-returns c = stores-four c.args.bytes.now c.args.four c.args.at (omega arith)
+returns c =
+    let k : c.args.at + 4 - c.args.at ≡ length c.args.four = omega arith in
+    rw (sets-eq c.args.four c.args.bytes.now c.args.at (omega arith), c.copy_from_slice.ensures.after, k, append_assoc, drop-drop)

@@ -1,11 +1,14 @@
-use Rattle.block_count.proofs.Passing.{less_one, less-nought, less-not}
+use mathlib.Core.Path.{◌≡◌, refl, ap, ◌∙◌}
+use mathlib.Core.Bool.{Bool, true, false}
+use Prim.Native.Nat.{ℕ, ◌-◌}
+use mir.Val.{bool_byte}
+use Rattle.game.specs.Table.{one_if}
 use Rattle.block_count.proofs.waiting.one_less.Goals as goal
 
-pub returns-then-number-gt0 : goal.returns-then-number-gt0
-returns-then-number-gt0 c = less_one _ c.if-flag.true
+byte : (b : Bool) → bool_byte b ≡ one_if b
+unfolding one_if
+byte true = refl
+byte false = refl
 
-pub returns-else-number-gt0 : goal.returns-else-number-gt0
-returns-else-number-gt0 c = less-nought _ c.if-flag.true c.if-number-gt0.false
-
-pub returns-else-flag : goal.returns-else-flag
-returns-else-flag c = less-not _ c.if-flag.false
+pub returns : goal.returns
+returns c = c.saturating_sub.ensures ∙ ap (λ (v : ℕ). c.args.number - v) (c.from.ensures ∙ byte c.args.flag)

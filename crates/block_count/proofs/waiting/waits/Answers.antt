@@ -1,8 +1,14 @@
-use Rattle.block_count.proofs.Passing.{waits-not, waits-so}
+use mathlib.Core.Path.{◌≡◌, refl, ◌∙◌}
+use mathlib.Core.Bool.{Bool, true, false, not, cond}
+use mir.Val.{bool_byte}
+use lib.Dec.{eqb}
+use Rattle.block_count.specs.WaitingSteps.{waiting}
 use Rattle.block_count.proofs.waiting.waits.Goals as goal
 
-pub returns-then-pending-eq0 : goal.returns-then-pending-eq0
-returns-then-pending-eq0 c = waits-not c.if-pending-eq0.true
+byte : (b : Bool) → bool_byte (not b) ≡ cond b 0 1
+byte true = refl
+byte false = refl
 
 pub returns : goal.returns
-returns c = waits-so c.if-pending-eq0.false
+unfolding waiting
+returns c = c.from.ensures ∙ byte (eqb c.args.pending 0)

@@ -7,7 +7,7 @@ use Rattle.cost.proofs.Sums.{sum-none, bound-term, bound-term-le, sum_step}
 use Rattle.cost.proofs.summing.bound.Goals as goal
 
 pub loop-x-init : goal.loop-x-init
-loop-x-init c = (omega arith, sym (sum-none _), omega arith)
+loop-x-init c = (sym (sum-none _), omega arith)
 
 pub overflow_add-sum : goal.overflow_add-sum
 overflow_add-sum c =
@@ -20,8 +20,7 @@ overflow_add-sum c =
 
 pub loop-x-preserved : goal.loop-x-preserved
 loop-x-preserved c = (
-  omega arith,
-  sum_step _ c.loop-x.x c.loop-x.invariant.1 (c.cut_reach-sum.ensures ∙ bound-term c.args.parents.now c.args.top.now c.args.reach.now c.loop-x.x c.loop-x-test.true),
+  sum_step _ c.loop-x.x c.loop-x.invariant.0 (c.cut_reach-sum.ensures ∙ bound-term c.args.parents.now c.args.top.now c.args.reach.now c.loop-x.x c.loop-x-test.true),
   omega (
     arith,
     c.cut_reach-sum.ensures ∙ bound-term c.args.parents.now c.args.top.now c.args.reach.now c.loop-x.x c.loop-x-test.true,
@@ -33,4 +32,4 @@ loop-x-preserved c = (
 pub returns : goal.returns
 unfolding bound_by
 returns c =
-    c.loop-x.invariant.1 ∙ ap (λ (n : ℕ). total (tabulate n (bound_term c.args.parents.now c.args.top.now c.args.reach.now))) (omega arith)
+    c.loop-x.invariant.0 ∙ ap (λ (n : ℕ). total (tabulate n (bound_term c.args.parents.now c.args.top.now c.args.reach.now))) (omega arith)

@@ -10,4 +10,4 @@ returns-then-parent-eq-ABSENT c =
 
 pub returns : goal.returns
 returns c =
-    cut-here c.args.x c.args.parent c.args.top c.args.reach c.if-top-x.false c.if-parent-eq-ABSENT.false c.amount.ensures
+    cut-here c.args.x c.args.parent c.args.top c.args.reach c.if-top-x.false c.if-parent-eq-ABSENT.false c.from.ensures

@@ -1,19 +1,10 @@
 use native.Mathlib.Omega.{arith}
-use mathlib.Core.Path.{sym, ◌∙◌}
 use mathlib.Core.Logic.{inl, inr}
 use Prim.Native.Nat.{◌-◌}
 use Rattle.groups.proofs.Halving.{class-room}
 use Rattle.groups.proofs.Lightening.{lighter-begin, lighter-small, lighter-skip, lighter-loaded, lighter-candidates, lighter-floor, lighter-trimmed, lightened}
 use Rattle.groups.proofs.cutting.lighten_by_class.Goals.{then-loop-class-test+else-limit-weight, else-loop-class-test}
 use Rattle.groups.proofs.cutting.lighten_by_class.Goals as goal
-
-pub file_children-requires : goal.file_children-requires
-file_children-requires c =
-    record {
-      listed = c.requires.children.listed;
-      carried_len = c.requires.loaded.told ∙ sym c.requires.loaded.tails;
-      unfiled = c.requires.unfiled;
-    }
 
 pub overflow_add-class : goal.overflow_add-class
 overflow_add-class c =

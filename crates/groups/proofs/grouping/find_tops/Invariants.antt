@@ -3,6 +3,3 @@ use Rattle.groups.proofs.grouping.find_tops.Given as goal
 
 abbrev pub invariant-loop-x : goal.invariant-loop-x
 invariant-loop-x l = Climbing l.initial.link l.link l.x
-
-abbrev pub decreases-loop-x : goal.decreases-loop-x
-decreases-loop-x l = l.x

@@ -12,7 +12,7 @@ raise-requires c =
     let g = c.requires in
     record {
       long = g.long;
-      blank_jump = c.fill.ensures ∙ ap (λ (n : ℕ). replicate n absent) g.long_jump;
+      blank_jump = c.fill.ensures.after (λ y e. e) ∙ ap (λ (n : ℕ). replicate n absent) g.long_jump;
       buckets = g.buckets;
     }
 

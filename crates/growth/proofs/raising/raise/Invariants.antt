@@ -9,7 +9,8 @@ use Rattle.sorting.specs.Sorted.{begin}
 use Rattle.bucket.specs.Filed.{Filed}
 use Rattle.growth.specs.Growth.{Upward, Raised, ReadUpTo, new_parents, Untouched}
 use Rattle.growth.specs.Moves.{Moves}
-use Prim.Native.Nat.{ℕ, ◌-◌, ◌≤◌}
+use Rattle.growth.proofs.Flags.{is_set}
+use Prim.Native.Nat.{ℕ, ◌≤◌}
 use Rattle.growth.proofs.raising.raise.Given as goal
 
 -- the vertices below y are raised, for whatever graph is filed
@@ -24,7 +25,4 @@ pub record Turn (keep : Bool) (ends was before jumps lower p jump : List ℕ) (m
   pub raised : (E : List Edge) → Proper (length ends) E → Filed (length ends) E ends was → Raised (length ends) E y (new_parents p jump) jump
 
 abbrev pub invariant-loop-y : goal.invariant-loop-y
-invariant-loop-y l = Turn l.keep l.ends l.initial.lower l.initial.parents l.initial.jump l.lower l.parents l.jump l.moved l.at l.y
-
-abbrev pub decreases-loop-y : goal.decreases-loop-y
-decreases-loop-y l = length l.ends - l.y
+invariant-loop-y g l = Turn (is_set g.row.KEEP) l.ends l.initial.lower l.initial.parents l.initial.jump l.lower l.parents l.jump l.moved l.at l.y

@@ -44,5 +44,5 @@ returns c =
         grown = rest-grown _ c.requires u y c.file_edges.ensures g.0;
         clear = g.0.clear ∙ same-room _ _ _ _ _ _ c.file_edges.auto.ends refl c.file_edges.auto.lower;
       },
-      rest-moved _ c.requires u y c.file_edges.ensures g.0 c.put_some-progress.ensures.1 g.1 c.smaller.ensures,
+      rest-moved _ c.requires u y c.file_edges.ensures g.0 c.put_some-progress.ensures.1 g.1 c.min.ensures,
     )

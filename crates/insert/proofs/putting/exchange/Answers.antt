@@ -6,7 +6,7 @@ use Rattle.insert.proofs.putting.exchange.Goals as goal
 pub returns-then-parent : goal.returns-then-parent
 returns-then-parent c =
     let (t, up, inside) = c.requires in
-    (exchanged-root t up inside c.if-parent.true, exchanged-lower t up inside c.smaller.ensures (omega (arith, c.if-parent.true, t.few)))
+    (exchanged-root t up inside c.if-parent.true, exchanged-lower t up inside c.min.ensures (omega (arith, c.if-parent.true, t.few)))
 
 pub returns-then-parent-high : goal.returns-then-parent-high
 returns-then-parent-high c =
@@ -16,4 +16,4 @@ returns-then-parent-high c =
 pub returns : goal.returns
 returns c =
     let (t, up, inside) = c.requires in
-    (exchanged-swap t up inside c.if-parent.false c.if-parent-high.false, exchanged-lower t up inside c.smaller-2.ensures (omega (arith, c.if-parent-high.false)))
+    (exchanged-swap t up inside c.if-parent.false c.if-parent-high.false, exchanged-lower t up inside c.min-2.ensures (omega (arith, c.if-parent-high.false)))

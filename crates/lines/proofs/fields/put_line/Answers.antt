@@ -1,32 +1,8 @@
 use native.Mathlib.Omega.{arith}
 use Rattle.decimal.specs.Ascii.{ascii}
-use Rattle.decimal.proofs.Runs.{put-length, put_on}
+use Rattle.decimal.proofs.Runs.{put_on}
 use Rattle.lines.specs.Line.{spaced, newlined, line_text}
 use Rattle.lines.proofs.fields.put_line.Goals as goal
-
-pub put_entry-requires : goal.put_entry-requires
-put_entry-requires c =
-    omega (
-      arith,
-      c.requires,
-      c.put_entry-end.ensures.1,
-      put-length c.put_entry-end.ensures.0,
-      c.put_entry-end-2.ensures.1,
-      put-length
-          c.put_entry-end-2.ensures.0,
-      c.put_parent-end.ensures.1,
-      put-length c.put_parent-end.ensures.0,
-      c.put_entry-end-3.ensures.1,
-      put-length
-          c.put_entry-end-3.ensures.0,
-      c.put_entry-end-4.ensures.1,
-      put-length c.put_entry-end-4.ensures.0,
-      c.put_entry-end-5.ensures.1,
-      put-length
-          c.put_entry-end-5.ensures.0,
-      c.put_entry-end-6.ensures.1,
-      put-length c.put_entry-end-6.ensures.0,
-    )
 
 pub returns : goal.returns
 unfolding line_text spaced newlined ascii

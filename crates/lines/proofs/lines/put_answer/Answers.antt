@@ -1,13 +1,13 @@
 use mathlib.Core.Path.{ap}
-use Rattle.cost.specs.Answer.{verdict}
+use Rattle.refusal.specs.Numbers.{verdict}
 use Rattle.lines.proofs.Lined.{put-accepted, put-refusal}
 use Rattle.lines.proofs.lines.put_answer.Goals as goal
 
-pub returns-in-Accepted : goal.returns-in-Accepted
+pub returns-in-Ok : goal.returns-in-Ok
 unfolding verdict
-returns-in-Accepted c =
-    put-accepted _ (ap verdict c.in-Accepted.is) c.put_lines-end.ensures.0 c.put_totals.ensures
+returns-in-Ok c =
+    put-accepted _ (ap verdict c.in-Ok.is) c.put_lines-end.ensures.0 c.put_totals.ensures
 
-pub returns-in-Refused : goal.returns-in-Refused
+pub returns-in-Err : goal.returns-in-Err
 unfolding verdict
-returns-in-Refused c = put-refusal _ (ap verdict c.in-Refused.is) c.put_refused.ensures
+returns-in-Err c = put-refusal _ (ap verdict c.in-Err.is) c.put_refused.ensures

@@ -1,12 +1,7 @@
-use Prim.Native.Nat.{◌-◌, ◌≤◌}
-use lib.ListN.{length}
 use Rattle.lines.specs.Lines.{rank_text}
 use Rattle.lines.proofs.Lined.{Lined}
 use Rattle.lines.proofs.lines.put_lines.Given as goal
 
 abbrev pub invariant-loop-x : goal.invariant-loop-x
 invariant-loop-x l =
-    (l.x ≤ length l.order) × Lined (rank_text l.order l.parents l.weights l.reach l.top l.block l.block_count) l.initial.text l.text l.x l.end
-
-abbrev pub decreases-loop-x : goal.decreases-loop-x
-decreases-loop-x l = length l.order - l.x
+    Lined (rank_text l.order l.parents l.weights l.reach l.top l.block l.block_count) l.initial.text l.text l.x l.end

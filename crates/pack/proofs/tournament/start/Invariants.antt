@@ -4,6 +4,3 @@ use Rattle.pack.proofs.tournament.start.Given as goal
 
 abbrev pub invariant-loop-i : goal.invariant-loop-i
 invariant-loop-i l = Playing (replicate l.blocks 0) l.nodes l.i l.i
-
-abbrev pub decreases-loop-i : goal.decreases-loop-i
-decreases-loop-i l = l.i

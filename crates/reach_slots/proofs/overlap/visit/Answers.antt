@@ -1,4 +1,3 @@
-use Rattle.std.proofs.Common.{rules}
 use native.Mathlib.Omega.{arith}
 use mathlib.Core.Path.{refl, sym, ap, ◌∙◌}
 use Prim.Native.Nat.{ℕ}
@@ -24,50 +23,50 @@ slot c d =
     let m = d.slotted.marked in
     let h = c.loop-k-test.true in
     elim c.if-k-stop.branch [
-      | then-k-stop w ↦ slot-first l h m d.turn w.if-k-stop.true c.read_at-y.ensures w.read_at.ensures w.read_at-y-then-k-stop.ensures w.u-is w.stop-is w.y-is
-      | else-k-stop w ↦ slot-other l h m d.turn w.if-k-stop.false c.read_at-y.ensures w.u-is w.stop-is w.y-is
+      | then-k-stop w ↦ slot-first l h m d.turn w.if-k-stop.true refl w.read_at.ensures w.read_at-y.ensures w.u-is w.stop-is w.y-is
+      | else-k-stop w ↦ slot-other l h m d.turn w.if-k-stop.false refl w.u-is w.stop-is w.y-is
     ]
 
 pub loop-k-init : goal.loop-k-init
-loop-k-init c = (search rules, refl, refl, refl, λ p es filed stops g e. counting-first g e)
+loop-k-init c = (refl, refl, refl, λ p es filed stops g e. counting-first g e)
 
 pub read_at-requires : goal.read_at-requires
 read_at-requires c =
     let (p, es, filed, stops, g, e) = c.requires in
-    let d = c.loop-k.invariant.4 p es filed stops g e in
-    let h = (slot-mark g.layout c.loop-k-test.true g.marked d.turn c.if-k-stop.true c.read_at-y.ensures).0 in
+    let d = c.loop-k.invariant.3 p es filed stops g e in
+    let h = (slot-mark g.layout c.loop-k-test.true g.marked d.turn c.if-k-stop.true refl).0 in
     rw (g.entries.0, ← g.layout.entries) h
 
 pub overflow_add-stop : goal.overflow_add-stop
 overflow_add-stop c =
     let (p, es, filed, stops, g, e) = c.requires in
-    let d = c.loop-k.invariant.4 p es filed stops g e in
-    let h = (slot-mark g.layout c.loop-k-test.true g.marked d.turn c.if-k-stop.true c.read_at-y.ensures).1 in
+    let d = c.loop-k.invariant.3 p es filed stops g e in
+    let h = (slot-mark g.layout c.loop-k-test.true g.marked d.turn c.if-k-stop.true refl).1 in
     omega (arith, g.few, c.read_at.ensures)
 
-pub read_at-y-requires-then-k-stop : goal.read_at-y-requires-then-k-stop
-read_at-y-requires-then-k-stop c =
+pub read_at-y-requires : goal.read_at-y-requires
+read_at-y-requires c =
     let (p, es, filed, stops, g, e) = c.requires in
-    let d = c.loop-k.invariant.4 p es filed stops g e in
-    let h = (slot-mark g.layout c.loop-k-test.true g.marked d.turn c.if-k-stop.true c.read_at-y.ensures).0 in
+    let d = c.loop-k.invariant.3 p es filed stops g e in
+    let h = (slot-mark g.layout c.loop-k-test.true g.marked d.turn c.if-k-stop.true refl).0 in
     rw (g.entries.1, ← g.layout.entries) h
 
 pub read_at-v-requires : goal.read_at-v-requires
 read_at-v-requires c =
     let (p, es, filed, stops, g, e) = c.requires in
-    let d = c.loop-k.invariant.4 p es filed stops g e in
+    let d = c.loop-k.invariant.3 p es filed stops g e in
     slot-inside d (slot (goal.at.read_at-v-requires c).Joined-k-stop d)
 
 pub path_end-r-requires : goal.path_end-r-requires
 path_end-r-requires c =
     let (p, es, filed, stops, g, e) = c.requires in
-    let d = c.loop-k.invariant.4 p es filed stops g e in
+    let d = c.loop-k.invariant.3 p es filed stops g e in
     (p, d.jumps, path-under d (slot (goal.at.path_end-r-requires c).Joined-k-stop d) c.read_at-v.ensures)
 
 pub add_at-requires : goal.add_at-requires
 add_at-requires c =
     let (p, es, filed, stops, g, e) = c.requires in
-    let d = c.loop-k.invariant.4 p es filed stops g e in
+    let d = c.loop-k.invariant.3 p es filed stops g e in
     let s = slot (goal.at.add_at-requires c).Joined-k-stop d in
     let rv = c.read_at-v.ensures in
     let both = overlap-fits d s rv (c.path_end-r.ensures p d.jumps (path-under d s rv)).1 c.loop-k-test.true in
@@ -76,29 +75,16 @@ add_at-requires c =
 pub write_at-requires : goal.write_at-requires
 write_at-requires c =
     let (p, es, filed, stops, g, e) = c.requires in
-    let d = c.loop-k.invariant.4 p es filed stops g e in
+    let d = c.loop-k.invariant.3 p es filed stops g e in
     slot-inside d (slot (goal.at.write_at-requires c).Joined-k-stop d)
-
-pub overflow_add-k : goal.overflow_add-k
-overflow_add-k c =
-    let (
-      p,
-      es,
-      filed,
-      stops,
-      g,
-      e,
-    ) = c.requires in
-    omega (arith, g.few, c.loop-k-test.true)
 
 pub loop-k-preserved : goal.loop-k-preserved
 loop-k-preserved c =
-    let (k, a, b, o, inv) = c.loop-k.invariant in
+    let (a, b, o, inv) = c.loop-k.invariant in
     let rv = c.read_at-v.ensures in
     let (p, es, filed, stops, g, e) = c.requires in
     let d = inv p es filed stops g e in
     let js = (c.path_end-r.ensures p d.jumps (path-under d (slot (goal.at.loop-k-preserved c).Joined-k-stop d) rv)).0 in (
-      search rules,
       js.entries ∙ sym d.jumps.entries ∙ a,
       ap length c.write_at.ensures ∙ simp length-set b,
       ap length c.add_at.ensures ∙ simp length-set o,
@@ -110,4 +96,4 @@ loop-k-preserved c =
     )
 
 pub returns : goal.returns
-returns c = λ p es filed stops g e. visited-last g c.loop-k-test.false (c.loop-k.invariant.4 p es filed stops g e).visited
+returns c = λ p es filed stops g e. visited-last g c.loop-k-test.false (c.loop-k.invariant.3 p es filed stops g e).visited

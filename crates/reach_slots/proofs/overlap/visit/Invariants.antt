@@ -1,5 +1,5 @@
 use mathlib.Core.Path.{◌≡◌}
-use Prim.Native.Nat.{ℕ, ◌-◌, ◌≤◌}
+use Prim.Native.Nat.{ℕ}
 use lib.ListN.{length}
 use mathlib.Core.List.{List}
 use Rattle.game.specs.Edge.{Edge}
@@ -9,9 +9,6 @@ use Rattle.reach_slots.proofs.overlap.visit.Given as goal
 
 abbrev pub invariant-loop-k : goal.invariant-loop-k
 invariant-loop-k l =
-    (l.k ≤ length l.slots) × (length l.ancestor ≡ length l.initial.ancestor) × (length l.previous ≡ length l.initial.previous) × (length l.overlaps ≡ length l.initial.overlaps)
+    (length l.ancestor ≡ length l.initial.ancestor) × (length l.previous ≡ length l.initial.previous) × (length l.overlaps ≡ length l.initial.overlaps)
     × ((p : List ℕ) (es : List Edge) (filed stops : List ℕ) → Slotted p l.counts es filed stops l.ends l.first l.slots → Empty p l.ends l.initial.ancestor l.initial.previous l.initial.overlaps
     → Counting p l.counts es filed stops l.ends l.first l.slots l.ancestor l.previous l.overlaps l.k l.u l.stop)
-
-abbrev pub decreases-loop-k : goal.decreases-loop-k
-decreases-loop-k l = length l.slots - l.k

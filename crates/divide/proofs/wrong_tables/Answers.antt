@@ -1,6 +1,0 @@
-use Rattle.refusal.specs.Refusal.{wrong_length}
-use Rattle.divide.proofs.wrong_tables.Goals as goal
-
-pub returns : goal.returns
-unfolding wrong_length
-returns c = mathlib.Core.Path.refl

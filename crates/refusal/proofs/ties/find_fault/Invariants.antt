@@ -1,0 +1,8 @@
+use mathlib.Core.Path.{◌≡◌}
+use Rattle.game.specs.Edge.{ties as ties_of}
+use Rattle.edge.specs.Tie.{ties_left}
+use Rattle.refusal.specs.Refusal.{first_fault}
+use Rattle.refusal.proofs.ties.find_fault.Given as goal
+
+abbrev pub invariant-loop-tie : goal.invariant-loop-tie
+invariant-loop-tie l = first_fault l.n (ties_left l.tie-iterator) ≡ first_fault l.n (ties_of l.edges)

@@ -1,7 +1,0 @@
-use Rattle.std.proofs.Common.{rules}
-use Rattle.words.specs.Word.{word_at}
-use Rattle.words.proofs.word_at.Goals as goal
-
-pub returns : goal.returns
-unfolding word_at
-returns c = search rules

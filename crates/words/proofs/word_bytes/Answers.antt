@@ -1,7 +1,0 @@
-use Rattle.std.proofs.Common.{rules}
-use Rattle.words.specs.Word.{word_bytes}
-use Rattle.words.proofs.word_bytes.Goals as goal
-
-pub returns : goal.returns
-unfolding word_bytes
-returns c = search rules
