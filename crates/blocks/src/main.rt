@@ -36,6 +36,25 @@ fn read(rt: &HostRuntime, path: &str, buffer: &mut [u8]) -> usize
     }
 }
 
+// The front of each file, into a buffer of its own type: a buffer that is too short for what a run has to see does not fit.
+fn read_marks(rt: &HostRuntime, buffer: &mut [u8; MARKS]) -> usize
+    ensures { IsPrefixLen result buffer.new }
+{
+    read(rt, "marks.ord", buffer)
+}
+
+fn read_ties(rt: &HostRuntime, buffer: &mut [u8; TIES]) -> usize
+    ensures { IsPrefixLen result buffer.new }
+{
+    read(rt, "ties.rec", buffer)
+}
+
+fn read_want(rt: &HostRuntime, buffer: &mut [u8; WANT]) -> usize
+    ensures { IsPrefixLen result buffer.new }
+{
+    read(rt, "want.rec", buffer)
+}
+
 // Prints what a run says.
 fn print(rt: &HostRuntime, marks: &[u8], ties: &[u8], want: &[u8]) -> io::Result<()> {
     let mut text = [0u8; TEXT];
@@ -52,9 +71,9 @@ fn print_files(rt: &HostRuntime) -> io::Result<()>
     let mut marks = [0u8; MARKS];
     let mut ties = [0u8; TIES];
     let mut want = [0u8; WANT];
-    let marks_end = read(rt, "marks.ord", &mut marks);
-    let ties_end = read(rt, "ties.rec", &mut ties);
-    let want_end = read(rt, "want.rec", &mut want);
+    let marks_end = read_marks(rt, &mut marks);
+    let ties_end = read_ties(rt, &mut ties);
+    let want_end = read_want(rt, &mut want);
     print(
         rt,
         &marks[..marks_end],

@@ -19,7 +19,7 @@ pub fn word_at(bytes: &[u8], at: usize) -> u32
     requires { at + 4 ≤ length bytes.now }
     ensures { result ≡ word_at bytes.now at }
 {
-    u32::from_le_bytes([bytes[at], bytes[at + 1], bytes[at + 2], bytes[at + 3]])
+    word(bytes[at], bytes[at + 1], bytes[at + 2], bytes[at + 3])
 }
 
 // The four bytes of a word, the lowest first.
