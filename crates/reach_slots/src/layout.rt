@@ -54,7 +54,7 @@ pub fn lay_out(parents: &[u32], counts: &[u32], total: u32, ends: &mut [u32], st
     requires ends_len { (length ends.old ≡ length parents.now) × (length stops.old ≡ length parents.now) }
     ensures { Layout parents.now counts.now stops.new ends.new total }
 {
-    ends.copy_from_slice(counts);
+    table::copy(counts, ends);
     sum_subtrees(parents, ends);
     place_subtrees(parents, total, ends, stops);
 }

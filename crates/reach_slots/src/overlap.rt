@@ -87,7 +87,7 @@ pub fn count_overlaps(
         → Slotted parents.now counts.now es filed stops ends.now first.now slots.now
         → Balanced parents.now counts.now overlaps.new (reach_of parents.now es) }
 {
-    ancestor.copy_from_slice(parents);
+    table::copy(parents, ancestor);
     previous.fill(Net::ABSENT);
     overlaps.fill(0);
     visit(counts, ends, first, slots, overlaps, ancestor, previous);

@@ -1,3 +1,4 @@
 pub mod Filling
+pub mod Copying
 pub mod Summed
 pub mod Zipped

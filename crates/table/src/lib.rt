@@ -1,4 +1,4 @@
-// Tables whose places are given as numbers, and whole tables: found to hold one number alone, or added up.
+// Tables whose places are given as numbers, and whole tables: found to hold one number alone, copied, or added up.
 #![tactic(auto)]
 
 ghost use Rattle.std.specs.Prelude.{◌≡◌, true, ℕ, ◌+◌, ◌^◌, ◌<◌, length, get_or, set, replicate};
@@ -50,5 +50,15 @@ pub fn add_all(table: &mut [u32], other: &[u32])
 {
     for i in 0..other.len() {
         table[i] += other[i];
+    }
+}
+
+// Copies a table, entry by entry: `copy_from_slice` would have the library for C ask its host for `memmove`.
+pub fn copy(from: &[u32], to: &mut [u32])
+    requires { length to.old ≡ length from.now }
+    ensures { to.new ≡ from.now }
+{
+    for i in 0..to.len() {
+        to[i] = from[i];
     }
 }

@@ -47,8 +47,8 @@ count_overlaps-requires c =
       by_index = (_, filed, _, net-slotted (regrouped g f) l e k.slots (k.first ∙ er) content marked);
     }
 
-pub copy_from_slice-requires : goal.copy_from_slice-requires
-copy_from_slice-requires c =
+pub copy-requires : goal.copy-requires
+copy-requires c =
     let (es, g, f, m) = c.requires.given in c.fill_slots.auto.first ∙ c.requires.reach_len.0 ∙ sym (net-summable g).entries
 
 pub sum_reaches-requires : goal.sum_reaches-requires
@@ -60,7 +60,7 @@ sum_reaches-requires c =
     let (filed, content, marked) = c.fill_slots.ensures _ _ es (own-filed g f) (net-fileable (regrouped g f) l e) in
     let k = c.fill_slots.auto in
     let s = net-slotted (regrouped g f) l e k.slots (k.first ∙ er) content marked in
-    let same = c.copy_from_slice.ensures.after in record {
+    let same = c.copy.ensures in record {
       summable = rw same (net-summable g);
       overlaps_len = c.count_overlaps.auto.overlaps ∙ eo;
       by_index = (reach_of c.args.parents.now (in_buckets es 0 (length c.args.bucket_ends.now)), rw same (c.count_overlaps.ensures _ filed _ s));
@@ -76,4 +76,4 @@ returns c =
     let (filed, content, marked) = c.fill_slots.ensures _ _ es (own-filed g f) (net-fileable (regrouped g f) l e) in
     let k = c.fill_slots.auto in
     let s = net-slotted (regrouped g f) l e k.slots (k.first ∙ er) content marked in
-    c.sum_reaches.ensures _ (rw c.copy_from_slice.ensures.after (c.count_overlaps.ensures _ filed _ s)) ∙ reach-regrouped g f
+    c.sum_reaches.ensures _ (rw c.copy.ensures (c.count_overlaps.ensures _ filed _ s)) ∙ reach-regrouped g f

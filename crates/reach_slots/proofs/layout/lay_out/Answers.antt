@@ -4,11 +4,11 @@ use Rattle.game.specs.Table.{sum as total}
 use Rattle.reach_slots.proofs.layout.lay_out.Goals as goal
 
 pub sum_subtrees-requires : goal.sum_subtrees-requires
-sum_subtrees-requires c = rw c.copy_from_slice.ensures.after c.requires.summable
+sum_subtrees-requires c = rw c.copy.ensures c.requires.summable
 
 pub place_subtrees-requires : goal.place_subtrees-requires
 place_subtrees-requires c =
-    let e = ap total c.copy_from_slice.ensures.after ∙ c.requires.counts_value in
+    let e = ap total c.copy.ensures ∙ c.requires.counts_value in
     let st = rw e at c.sum_subtrees.ensures in
     record {
       ends_len = search rules;
@@ -17,6 +17,6 @@ place_subtrees-requires c =
 
 pub returns : goal.returns
 returns c =
-    let e = ap total c.copy_from_slice.ensures.after ∙ c.requires.counts_value in
+    let e = ap total c.copy.ensures ∙ c.requires.counts_value in
     let st = rw e at c.sum_subtrees.ensures in
-    rw c.copy_from_slice.ensures.after at (c.place_subtrees.ensures _ st)
+    rw c.copy.ensures at (c.place_subtrees.ensures _ st)

@@ -1,0 +1,5 @@
+use Rattle.table.proofs.Copying.{Copied}
+use Rattle.table.proofs.copy.Given as goal
+
+abbrev pub invariant-loop-i : goal.invariant-loop-i
+invariant-loop-i l = Copied l.from l.initial.to l.to l.i
