@@ -18,6 +18,7 @@ use net::Net;
 use pack::assign;
 use refusal::{Refusal, bad_limits, too_heavy};
 use tables::Division;
+pub use tables::wrong_tables;
 
 // Divides a net that nothing speaks against: carried weight, top and block of each vertex, and the load of each block.
 pub fn cut_and_pack(parents: &[u32], weights: &[u32], limit: u32, division: &mut Division<'_>)

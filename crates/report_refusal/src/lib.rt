@@ -8,48 +8,56 @@ ghost use Rattle.refusal.specs.Numbers.{code};
 ghost use Rattle.report_refusal.specs.Refused.{report_early};
 ghost use Rattle.report_refusal.specs.Steps.{wrong_lengths};
 
-use divide::tables::Division;
 use net::Net;
 use refusal::Refusal;
-use report_write::tables::Figures;
 
 // Whether one of the tables that a division does not know has another length than it needs: n entries for the vertices, m for the edges.
-fn wrong_figures(n: usize, m: usize, figures: &Figures<'_>) -> bool
-    ensures { result
-        ≡ (wrong_length (length figures.now.edge_blocks.now) m || wrong_length (length figures.now.reach.now) n
-        || wrong_length (length figures.now.block_count.now) n || wrong_length (length figures.now.edges_taken.now) n) }
+fn wrong_figures(
+    n: usize,
+    m: usize,
+    edge_blocks: usize,
+    reach: usize,
+    block_count: usize,
+    edges_taken: usize,
+) -> bool
+    ensures { result ≡ (wrong_length edge_blocks m || wrong_length reach n || wrong_length block_count n || wrong_length edges_taken n) }
 {
-    (figures.edge_blocks.len() != m)
-        | (figures.reach.len() != n)
-        | (figures.block_count.len() != n)
-        | (figures.edges_taken.len() != n)
+    (edge_blocks != m) | (reach != n) | (block_count != n) | (edges_taken != n)
 }
 
-// Whether a table of the net or one that is lent for a report, given by itself or by its length, or the list of edges is not as long as it
-// has to be.
+// Whether a table of the net or one that is lent for a report, given by its length, or the list of edges is not as long as it has to be.
 pub fn wrong_lengths(
     blocks: u32,
     parents: &[u32],
     weights: &[u32],
     edges: &[u32],
-    division: &Division<'_>,
-    figures: &Figures<'_>,
+    carried: usize,
+    top: usize,
+    block: usize,
+    block_loads: usize,
+    edge_blocks: usize,
+    reach: usize,
+    block_count: usize,
+    edges_taken: usize,
     compared_parents: usize,
     compared_weights: usize,
     ends: usize,
     jump: usize,
     lower: usize,
 ) -> bool
-    ensures { result ≡ wrong_lengths blocks parents.now weights.now edges.now
-        (length division.now.carried.now) (length division.now.top.now) (length division.now.block.now) (length division.now.loads.now)
-        (length figures.now.edge_blocks.now) (length figures.now.reach.now) (length figures.now.block_count.now) (length figures.now.edges_taken.now)
-        compared_parents compared_weights ends jump lower }
+    ensures { result ≡ wrong_lengths blocks parents.now weights.now edges.now carried top block block_loads edge_blocks reach block_count edges_taken compared_parents compared_weights ends jump lower }
 {
     let n = parents.len();
     let m = edge::count(edges);
-    (weights.len() != n)
-        | division.is_wrong(n, blocks as usize)
-        | wrong_figures(n, m, figures)
+    divide::wrong_tables(
+        n,
+        blocks as usize,
+        weights.len(),
+        carried,
+        top,
+        block,
+        block_loads,
+    ) | wrong_figures(n, m, edge_blocks, reach, block_count, edges_taken)
         | compare::wrong_compared(
             n,
             n + m,

@@ -1,6 +1,5 @@
 use Rattle.std.proofs.Common.{rules}
 use Rattle.game.proofs.Edges.{edges-length}
-use Rattle.refusal.specs.Refusal.{wrong_length}
 use Rattle.report_refusal.proofs.Told.{wrong-told}
 use Rattle.report_refusal.proofs.wrong_lengths.Goals as goal
 
@@ -9,8 +8,7 @@ overflow_add-n c =
     search (rules, c.count-m.ensures, edges-length c.args.edges.now)
 
 pub returns : goal.returns
-unfolding wrong_length
 returns c =
     let a = c.args in
-    wrong-told a.parents.now a.weights.now a.edges.now _ _ _ _ _ _ _ _ a.compared_parents
-    a.compared_weights a.ends a.jump a.lower _ c.count-m.ensures c.is_wrong.ensures c.wrong_figures.ensures c.wrong_compared.ensures c.not_whole.ensures
+    wrong-told a.parents.now a.weights.now a.edges.now a.carried a.top a.block a.block_loads a.edge_blocks a.reach a.block_count a.edges_taken a.compared_parents
+    a.compared_weights a.ends a.jump a.lower _ c.count-m.ensures c.wrong_tables.ensures c.wrong_figures.ensures c.wrong_compared.ensures c.not_whole.ensures
