@@ -1,2 +1,3 @@
 -- Laws of edges by their number. Nothing here needs to be believed: it is all proved.
+pub mod Reading
 pub mod Splitting

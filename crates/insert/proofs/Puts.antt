@@ -124,7 +124,7 @@ trade-end {p} {e} {q} {low} {high} t done = record {
     spent a = subst (λ (x : ℕ). Alike (links q) (pending q (x ─ high))) is (record { there = a.back; back = a.there })
 
 -- an edge may be written either way round
-put-turned : {p : List ℕ} {a b : ℕ} {q : List ℕ} {steps : ℕ} → PutEdge p (b ─ a) q steps → PutEdge p (a ─ b) q steps
+pub put-turned : {p : List ℕ} {a b : ℕ} {q : List ℕ} {steps : ℕ} → PutEdge p (b ─ a) q steps → PutEdge p (a ─ b) q steps
 unfolding pending
 put-turned {p} {a} {b} x = record { same = x.same; sound = x.sound; quick = x.quick; alike = alike-trans x.alike turned }
   where

@@ -2,7 +2,7 @@
 -- Assumes nothing.
 use mathlib.Core.Path.{◌≡◌, refl, sym, ap, ◌∙◌}
 use mathlib.Core.List.{List, [], ◌∷◌, ◌++◌, append_assoc, append-nil}
-use Prim.Native.Nat.{ℕ, ◌+◌, ◌*◌, ◌%◌, ◌<◌}
+use Prim.Native.Nat.{ℕ, suc, ◌+◌, ◌*◌, ◌%◌, ◌<◌}
 use native.Mathlib.Numerals.{add-one, add-two}
 use native.Mathlib.Omega.{arith}
 use lib.ListN.{length, get_or, set, take, drop, length-set, length-append}
@@ -28,6 +28,14 @@ looked-whole table [] h = refl
 looked-whole table (a ∷ []) h = absurd (omega arith)
 looked-whole table (a ∷ b ∷ []) h = absurd (omega arith)
 looked-whole table (a ∷ b ∷ r ∷ xs) h = ap (λ (ys : List ℕ). get_or table a 0 ∷ get_or table b 0 ∷ r ∷ ys) (looked-whole table xs (omega arith))
+
+-- and there are as many numbers
+pub looked-up-length : (table xs : List ℕ) → length (looked_up table xs) ≡ length xs
+unfolding looked_up
+looked-up-length table [] = refl
+looked-up-length table (a ∷ []) = refl
+looked-up-length table (a ∷ b ∷ []) = refl
+looked-up-length table (a ∷ b ∷ r ∷ xs) = ap (λ (k : ℕ). suc (suc (suc k))) (looked-up-length table xs)
 
 -- three numbers that are stored one behind the other
 stored-three : (xs : List ℕ) (k u v w : ℕ) → k + 2 < length xs → take (k + 3) (set (set (set xs k u) (k + 1) v) (k + 2) w) ≡ take k xs ++ (u ∷ v ∷ w ∷ [])

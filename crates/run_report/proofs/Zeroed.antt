@@ -44,7 +44,7 @@ module _ (most n : ℕ) (h : n ≤ most) (t : List ℕ) (kept : length t ≡ len
   pub front-is : take n (t ++ drop n (replicate most 0)) ≡ t
   front-is = take_at t (drop n (replicate most 0)) n as_long
 
-  front_length : length (take n (t ++ drop n (replicate most 0))) ≡ n
+  pub front_length : length (take n (t ++ drop n (replicate most 0))) ≡ n
   front_length = ap length front-is ∙ as_long
 
   pub front-counted : n ≡ length (take n (t ++ drop n (replicate most 0)))

@@ -38,7 +38,7 @@ module _ (of : Net) (a b : ℕ) (xs : List ℕ) (was : SeparateTables) where
   late = grown_refusal of a b (ties xs)
 
   -- refused by reading alone: the number, and every table as it was
-  ends-early : {code : ℕ} {wrong : Bool} → code ≡ separate_early of a b xs wrong → wrong ≡ wrong_separate of xs was → (code ≡ 0 → ⊥)
+  pub ends-early : {code : ℕ} {wrong : Bool} → code ≡ separate_early of a b xs wrong → wrong ≡ wrong_separate of xs was → (code ≡ 0 → ⊥)
       → ended (refused code) was ≡ separate_outcome of a b xs was
   unfolding separate_outcome separate_refusal early late
   ends-early {code} e w h = ap₂ ended (sym number) (sym (unless-refused early was _ some))
