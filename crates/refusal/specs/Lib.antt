@@ -5,4 +5,5 @@ pub mod Numbers
 pub mod Outcome
 pub mod Refusal
 pub mod Steps
+pub mod Texts
 pub mod Verdict

@@ -51,6 +51,11 @@ impl Refusal {
 
 // What is wrong, in a few words; the header and the hosts say it in the same ones.
 impl fmt::Display for Refusal {
+    ghost use Rattle.std.specs.Prelude.{Some};
+    ghost use Rattle.refusal.specs.Texts.{text_of};
+
+    ghost output = { λ refusal. Some (text_of refusal) };
+
     fn fmt<W: fmt::Write>(&self, f: &mut fmt::Formatter<W>) -> fmt::Result {
         f.write_str(match self {
             Refusal::BadCount => "no vertex, or more than 1,000,000",
