@@ -97,7 +97,8 @@ ASSUMED = [
 LIBRARY = """The toolchain brings these names. They are not followed, and mean what its library says. `get_or xs i d`
 is the entry of `xs` at place `i`, or `d` behind its end. Of a table that a contract speaks of, `xs.now` is what it
 holds, and `xs.old` and `xs.new` are what one that is written holds before and after the call; `result` is the
-answer."""
+answer. Of a slice that lies in a struct, `ghost_name` says which slice it is: where it is the same before and after a
+call, the struct holds the same slice."""
 
 # Files of computed examples: the checker computes them, so that they show what the definitions give.
 EXAMPLES = {"Paper", "Example", "Examples", "Case"}

@@ -71,9 +71,16 @@ def rust_texts():
     return {int(number): texts[name] for name, number in numbers}
 
 
-@test(at_least=23)
+def rattle_texts():
+    source = (ROOT / "crates" / "refusal" / "src" / "kinds.rt").read_text()
+    numbers = re.findall(r"^    (\w+) = (\d+),$", source, flags=re.M)
+    texts = dict(re.findall(r'^ +Refusal::(\w+) =>\s+"(.+)",$', source, flags=re.M))
+    return {int(number): texts[name] for name, number in numbers}
+
+
+@test(at_least=24)
 def texts(t):
-    """Each answer has one text in C, in Python and in Rust, and another one than any other answer."""
+    """Each answer has one text in C, in Python, in Rust and in Rattle, and another one than any other answer."""
     source = """#include <stdio.h>
     #include "niqastul.h"
     int main(void) { for (uint32_t number = 0; number < 100; number++) puts(niqastul_text(number)); return 0; }"""
@@ -81,11 +88,20 @@ def texts(t):
     t.same(sorted(known), sorted([0] + calls.ORDER))
     t.same(len(set(known.values())), len(known))
     t.same(rust_texts(), python_texts())
+    t.same(rattle_texts(), python_texts())
     for language in LANGUAGES:
         shown = printed(language, source).splitlines()
         t.same(shown, [known.get(number, "unknown answer") for number in range(100)], language)
     for number, text in known.items():
         t.true(re.fullmatch(r"[ -~]{5,70}", text), number, text)
+
+
+@test(at_least=1)
+def wanted_from_outside(t):
+    """What the archive for C asks its host for: `memset`, and nothing else."""
+    archive = PATH.parent / "libniqastul.a"
+    shown = subprocess.run(["nm", "-u", archive], check=True, capture_output=True, text=True).stdout
+    t.same(re.findall(r"^ +U (\w+)$", shown, flags=re.M), ["memset"])
 
 
 NONE = None, ctypes.c_size_t(0)
