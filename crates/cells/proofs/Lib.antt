@@ -1,2 +1,3 @@
 -- Laws of handing over. Nothing here needs to be believed: it is all proved.
 pub mod Handed
+pub mod Taken

@@ -1,2 +1,3 @@
 -- What a call hands to a caller in C.
 pub mod Returned
+pub mod Taken

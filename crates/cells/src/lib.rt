@@ -2,50 +2,53 @@
 // were.
 #![tactic(auto)]
 
+mod numbered;
+mod placed;
+
 ghost use Rattle.std.specs.Prelude.{◌≡◌};
 ghost use Rattle.refusal.specs.Verdict.{number};
-ghost use Rattle.refusal.specs.Numbers.{verdict};
 ghost use Rattle.moved.specs.Moved.{moved_rank};
-ghost use Rattle.query.specs.Query.{place_of, place};
+ghost use Rattle.query.specs.Query.{place_of};
 ghost use Rattle.cells.specs.Returned.{told, cells, cells_of, separator_cells, separator_cells_of};
+ghost use Rattle.cells.specs.Taken.{verdict_by};
 
 use ancestry::Separator;
 use cost::Totals;
-use query::Run;
-use refusal::Refusal;
+pub use numbered::Numbered;
+pub use placed::Placed;
 
 // Hands over an answer without values.
-pub fn number(answer: Result<(), Refusal>) -> u32
-    ensures { result ≡ number (verdict answer) }
+pub fn number<E: Numbered>(answer: Result<(), E>) -> u32
+    ensures { result ≡ number (verdict_by E.numbered answer) }
 {
     match answer {
         Ok(()) => 0,
-        Err(refusal) => refusal.number(),
+        Err(refusal) => refusal.as_number(),
     }
 }
 
 // Hands over where a forest moved, as a rank.
-pub fn hand_rank(answer: Result<Option<u32>, Refusal>, moved: &mut u32) -> u32
-    ensures { (result ≡ number (verdict answer)) × (moved.new ≡ told moved_rank (verdict answer) moved.old) }
+pub fn hand_rank<E: Numbered>(answer: Result<Option<u32>, E>, moved: &mut u32) -> u32
+    ensures { (result ≡ number (verdict_by E.numbered answer)) × (moved.new ≡ told moved_rank (verdict_by E.numbered answer) moved.old) }
 {
     *moved = match answer {
         Ok(its) => moved::moved_rank(its),
-        Err(refusal) => return refusal.number(),
+        Err(refusal) => return refusal.as_number(),
     };
     0
 }
 
 // Hands over what a report answers: the number of blocks that its share knows is the caller's own.
-pub fn hand_totals(
-    answer: Result<Totals, Refusal>,
+pub fn hand_totals<E: Numbered>(
+    answer: Result<Totals, E>,
     bound: &mut u64,
     volume: &mut u64,
     quotient: &mut u32,
     remainder: &mut u32,
 ) -> u32
-    ensures { (result ≡ number (verdict answer))
+    ensures { (result ≡ number (verdict_by E.numbered answer))
         × (cells bound.new volume.new quotient.new remainder.new
-        ≡ told cells_of (verdict answer) (cells bound.old volume.old quotient.old remainder.old)) }
+        ≡ told cells_of (verdict_by E.numbered answer) (cells bound.old volume.old quotient.old remainder.old)) }
 {
     match answer {
         Ok(totals) => {
@@ -56,32 +59,28 @@ pub fn hand_totals(
             *remainder = share.remainder();
             0
         }
-        Err(refusal) => refusal.number(),
+        Err(refusal) => refusal.as_number(),
     }
 }
 
-// Hands over the run of a vertex in an index. Refused, it is an empty part at the front.
-pub fn hand_place(answer: Result<Run, Refusal>, first: &mut u64, count: &mut u64) -> u32
-    ensures { place_of result first.new count.new ≡ place answer }
+// Hands over the place of a run in an index. A refused query's is an empty part at the front.
+pub fn hand_place<P: Placed>(answer: P, first: &mut u64, count: &mut u64) -> u32
+    ensures { place_of result first.new count.new ≡ P.placed answer }
 {
-    match answer {
-        Ok(run) => {
-            *first = u64::from(run.first);
-            *count = u64::from(run.count);
-            0
-        }
-        Err(refusal) => {
-            *first = 0;
-            *count = 0;
-            refusal.number()
-        }
-    }
+    let (number, at, long) = answer.parts();
+    *first = u64::from(at);
+    *count = u64::from(long);
+    number
 }
 
 // Hands over what lies between two vertices: how many vertices that is, and the lowest, as a rank.
-pub fn hand_separator(answer: Result<Separator, Refusal>, count: &mut u32, lowest: &mut u32) -> u32
-    ensures { (result ≡ number (verdict answer))
-        × (separator_cells count.new lowest.new ≡ told separator_cells_of (verdict answer) (separator_cells count.old lowest.old)) }
+pub fn hand_separator<E: Numbered>(
+    answer: Result<Separator, E>,
+    count: &mut u32,
+    lowest: &mut u32,
+) -> u32
+    ensures { (result ≡ number (verdict_by E.numbered answer))
+        × (separator_cells count.new lowest.new ≡ told separator_cells_of (verdict_by E.numbered answer) (separator_cells count.old lowest.old)) }
 {
     match answer {
         Ok(its) => {
@@ -89,6 +88,6 @@ pub fn hand_separator(answer: Result<Separator, Refusal>, count: &mut u32, lowes
             *lowest = ancestry::lowest_rank(its.lowest);
             0
         }
-        Err(refusal) => refusal.number(),
+        Err(refusal) => refusal.as_number(),
     }
 }

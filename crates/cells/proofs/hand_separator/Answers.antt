@@ -5,8 +5,8 @@ use Rattle.cells.proofs.hand_separator.Goals as goal
 
 pub returns-in-Ok : goal.returns-in-Ok
 unfolding separator_cells_of
-returns-in-Ok c =
-    cells-accepted separator_cells_of _ c.in-Ok.is (ap (separator_cells _) c.lowest_rank.ensures)
+returns-in-Ok o c =
+    cells-accepted _ separator_cells_of _ c.in-Ok.is (ap (separator_cells _) c.lowest_rank.ensures)
 
 pub returns-in-Err : goal.returns-in-Err
-returns-in-Err c = cells-refused separator_cells_of _ c.in-Err.is c.number.ensures
+returns-in-Err o c = cells-refused _ separator_cells_of _ c.in-Err.is c.as_number.ensures

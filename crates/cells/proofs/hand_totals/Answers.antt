@@ -5,8 +5,8 @@ use Rattle.cells.proofs.hand_totals.Goals as goal
 
 pub returns-in-Ok : goal.returns-in-Ok
 unfolding cells_of
-returns-in-Ok c =
-    cells-accepted cells_of _ c.in-Ok.is (ap₂ (cells _ _) c.quotient.ensures c.remainder.ensures)
+returns-in-Ok o c =
+    cells-accepted _ cells_of _ c.in-Ok.is (ap₂ (cells _ _) c.quotient.ensures c.remainder.ensures)
 
 pub returns-in-Err : goal.returns-in-Err
-returns-in-Err c = cells-refused cells_of _ c.in-Err.is c.number.ensures
+returns-in-Err o c = cells-refused _ cells_of _ c.in-Err.is c.as_number.ensures

@@ -1,6 +1,6 @@
 use Rattle.std.proofs.Common.{rules}
-use Rattle.exports.proofs.Answered.{handed-as}
+use Rattle.exports.proofs.Answered.{handed-own}
 use Rattle.exports.proofs.niqastul_divide.Goals as goal
 
 pub returns : goal.returns
-returns c = search (rules, handed-as c.number.ensures c.divide.ensures.outcome)
+returns c = search (rules, handed-own _ c.number.ensures c.divide.ensures.outcome)

@@ -1,5 +1,5 @@
-use Rattle.exports.proofs.Answered.{filled-as}
+use Rattle.exports.proofs.Answered.{filled-own}
 use Rattle.exports.proofs.niqastul_join.Goals as goal
 
 pub returns : goal.returns
-returns c = filled-as _ _ c.hand_rank.ensures.0 c.hand_rank.ensures.1 c.join-answer.ensures
+returns c = filled-own _ _ _ c.hand_rank.ensures.0 c.hand_rank.ensures.1 c.join-answer.ensures

@@ -1,5 +1,5 @@
-use Rattle.exports.proofs.Answered.{handed-as}
+use Rattle.exports.proofs.Answered.{handed-own}
 use Rattle.exports.proofs.niqastul_save.Goals as goal
 
 pub returns : goal.returns
-returns c = handed-as c.number.ensures c.save.ensures
+returns c = handed-own _ c.number.ensures c.save.ensures
